@@ -1,0 +1,31 @@
+-- The model that a device info names, and what a model has (01: "Model and single sends", and the tables of DSP and AVR). Definitions only.
+-- Assumes nothing.
+use mathlib.Core.Bool.{Bool, true, false, cond}
+use mathlib.Core.List.{List, [], _∷_}
+use Prim.Native.Nat.{ℕ}
+use Rattle.device.specs.Search.{contains}
+use Rattle.device.specs.declared.model.DeviceModel.{DeviceModel}
+use Rattle.device.specs.declared.model.DeviceModel.the-variants.{Mevo, Xi}
+
+-- the five bytes "FS Xi"
+abbrev pub xiTag : List ℕ
+xiTag = 0x46 ∷ 0x53 ∷ 0x20 ∷ 0x58 ∷ 0x69 ∷ []
+
+-- 01: "The model is Xi if the five bytes "FS Xi" stand together anywhere in the device-info payload, else Mevo."
+abbrev pub modelOf : List ℕ → DeviceModel
+modelOf payload = cond (contains xiTag payload) Xi Mevo
+
+-- 01: "Only Mevo has a camera."
+abbrev pub hasCamera : DeviceModel → Bool
+hasCamera Mevo = true
+hasCamera Xi = false
+
+-- the AVR's entries 8 and 10 to 12: "Mevo only"
+abbrev pub hasFactoryCal : DeviceModel → Bool
+hasFactoryCal Mevo = true
+hasFactoryCal Xi = false
+
+-- the DSP's entry 8: "Xi only"
+abbrev pub hasPowerMode : DeviceModel → Bool
+hasPowerMode Mevo = false
+hasPowerMode Xi = true

@@ -1,0 +1,11 @@
+-- `ConfigAck::for_result` meets its contract: to clear the top bit of a byte is to take its remainder by 128.
+-- Assumes nothing.
+use lib.Bits.{and-mask}
+use Rattle.protocol.proofs.status.ConfigAck.for_result.Statement.{statement}
+use Rattle.protocol.proofs.status.ConfigAck.for_result.Tie as tie
+
+returns : tie.Need-returns
+returns c = rw (← and-mask (c .args .type-id) 7)
+
+pub for-result-spec : {M : Type 1} → statement M
+for-result-spec = tie.close (tie.spec returns)

@@ -1,0 +1,11 @@
+-- The bytes of the bus addresses (01: "Devices: App 0x10, Pi 0x12, Avr 0x30, Dsp 0x40"). Definitions only.
+-- Assumes nothing.
+use Prim.Native.Nat.{ℕ}
+use Rattle.protocol.specs.declared.addr.BusAddr.{BusAddr}
+use Rattle.protocol.specs.declared.addr.BusAddr.the-variants.{App, Pi, Avr, Dsp}
+
+abbrev pub byteOf : BusAddr → ℕ
+byteOf App = 0x10
+byteOf Pi = 0x12
+byteOf Avr = 0x30
+byteOf Dsp = 0x40

@@ -1,0 +1,6 @@
+pub mod Addr
+pub mod Ack
+pub mod Stored
+pub mod Refusals
+pub mod Kinds
+pub mod Action

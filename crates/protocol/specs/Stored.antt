@@ -1,0 +1,10 @@
+-- What is stored of the bytes s (01: "bytes and places past a stored length are 0"). Definitions only.
+-- Assumes nothing.
+use Prim.Native.Nat.{ℕ, _-_, min}
+use mathlib.Core.List.{List, _++_}
+use lib.ListN.{length, take, replicate}
+use Rattle.protocol.specs.declared.stored.Stored.{Stored}
+
+-- s itself, or its first 256 bytes where it is longer; then zeros, to 256 bytes in all
+abbrev pub stored : List ℕ → Stored
+stored s = record { bytes = take 256 s ++ replicate (256 - length s) 0; len = min 256 (length s) }

@@ -1,0 +1,19 @@
+//! The Rust that the port is compared with: ironsight's sequencers and
+//! records, with the two clocks of `seq` handed in.
+
+#[path = "../ironsight/src/addr.rs"]
+pub mod addr;
+#[path = "../ironsight/src/conn.rs"]
+pub mod conn;
+#[path = "../ironsight/src/protocol/mod.rs"]
+pub mod protocol;
+
+#[path = "stand_ins/codec.rs"]
+pub mod codec;
+#[path = "stand_ins/error.rs"]
+pub mod error;
+#[path = "stand_ins/frame.rs"]
+pub mod frame;
+
+// pub mod seq, from build.rs
+include!(concat!(env!("OUT_DIR"), "/modules.rs"));
