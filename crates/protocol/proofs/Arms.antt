@@ -1,7 +1,7 @@
 -- What a `_` arm of a `match` tells: the variant's number is one of those that no other arm names, so a test for another is false.
 -- Assumes nothing.
-use mathlib.Core.Path.{_≡_, refl, subst, _∙_}
-use mathlib.Core.Bool.{true, false, not, cond}
+use mathlib.Core.Path.{_≡_, refl, subst}
+use mathlib.Core.Bool.{false, not, cond}
 use mathlib.Core.List.{List, [], _∷_}
 use Prim.Native.Nat.{ℕ}
 use lib.Dec.{T, eqb}
@@ -53,7 +53,7 @@ tagged (Msg.TimeSync t) = refl
 tagged (Msg.CamConfig c) = refl
 tagged Msg.Other = refl
 
-abbrev kinds : List ℕ
+abbrev pub kinds : List ℕ
 kinds = 0 ∷ 1 ∷ 2 ∷ 3 ∷ 4 ∷ 5 ∷ 6 ∷ 7 ∷ 8 ∷ 9 ∷ 10 ∷ 11 ∷ 12 ∷ 13 ∷ 14 ∷ 15 ∷ 16 ∷ 17 ∷ 18 ∷ 19 ∷ 20 ∷ []
 
 -- a message of a kind among ks, of which k is none, is not of kind k
@@ -66,7 +66,7 @@ other k m t h = none-of (but k kinds) k m t h
 
 -- ---- sources
 
-abbrev place : BusAddr → ℕ
+abbrev pub place : BusAddr → ℕ
 place b = Declared.tagOf bus.the-type b
 
 -- a source that is another device than d does not have its byte

@@ -6,5 +6,9 @@ use lib.ListN.{length, take, replicate}
 use Rattle.protocol.specs.declared.stored.Stored.{Stored}
 
 -- s itself, or its first 256 bytes where it is longer; then zeros, to 256 bytes in all
-abbrev pub stored : List ℕ → Stored
+unfoldable pub stored : List ℕ → Stored
 stored s = record { bytes = take 256 s ++ replicate (256 - length s) 0; len = min 256 (length s) }
+
+-- the bytes that are stored there
+abbrev pub content : Stored → List ℕ
+content s = take (s .len) (s .bytes)

@@ -33,6 +33,11 @@ pub struct ConfigResp {
     pub params: [i16; 34],
 }
 
+pub struct OptionConfigResp {
+    pub some: bool,
+    pub value: ConfigResp,
+}
+
 pub struct AvrConfigResp {
     pub payload: Stored,
 }

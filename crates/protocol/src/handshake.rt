@@ -13,6 +13,11 @@ pub struct DevInfoResp {
     pub payload: Stored,
 }
 
+pub struct OptionDevInfoResp {
+    pub some: bool,
+    pub value: DevInfoResp,
+}
+
 pub struct ProdInfoReq {
     pub sub_query: u8,
 }

@@ -4,12 +4,17 @@ use mathlib.Core.Path.{_≡_, refl}
 use mathlib.Core.List.{List, [], _∷_, map}
 use Prim.Native.Nat.{ℕ}
 use Rattle.protocol.specs.declared.addr.BusAddr.{BusAddr}
+use Rattle.protocol.specs.declared.status.DspStatus.{DspStatus}
 use Rattle.protocol.specs.declared.Command.{Command}
+use Rattle.protocol.specs.declared.Message.{Message}
 use Rattle.protocol.specs.declared.Action.{Action}
 use Rattle.protocol.specs.Action.{noAction, sendTo}
 use Rattle.device.specs.declared.model.DeviceModel.{DeviceModel}
 use Rattle.device.specs.Model.{modelOf}
 use Rattle.device.specs.Sends.{resultAck}
+use Rattle.sequence.specs.Events.{Envelope}
+use Rattle.dsp.specs.declared.DspSequencer.{DspSequencer}
+use Rattle.dsp.specs.Answers.{begun, fedTo, polled}
 
 -- what a call can answer
 pub data Answer : Type 0 where
@@ -27,6 +32,20 @@ trial a s = record { answered = a; said = s }
 abbrev ack : ℕ → Action
 ack c = sendTo BusAddr.Avr (Command.ConfigAck (record { «bus_addr» = 0x10; «acked_cmd» = c }))
 
+-- a DSP status of a Gen2, and the start-up after it came at 5,000,000,000 ns
+abbrev dspStatus : Envelope
+dspStatus = record {
+  src = BusAddr.Dsp;
+  type-id = 0xAA;
+  message = Message.DspStatus (DspStatus.V46 (record { state = 1; version = 0x46 }));
+  params = [];
+  text = [];
+  payload = [];
+}
+
+abbrev waiting : DspSequencer
+waiting = fedTo (begun .state) dspStatus 5_000_000_000 .state
+
 abbrev pub starred : List Trial
 starred =
     -- payload "FS Xi": Xi
@@ -42,6 +61,10 @@ starred =
     -- Mevo: no ack
     trial (action (resultAck DeviceModel.Mevo BusAddr.Avr 0xD4)) (action noAction) ∷
     trial (action (resultAck DeviceModel.Mevo BusAddr.Avr 0xE8)) (action noAction) ∷
+    -- DSP status at 5,000,000,000; check at 6,999,999,999: nothing
+    trial (action (polled waiting 6_999_999_999 .action)) (action noAction) ∷
+    -- at 7,000,000,000: DevInfoReq
+    trial (action (polled (polled waiting 6_999_999_999 .state) 7_000_000_000 .action)) (action (sendTo BusAddr.Dsp Command.DevInfoReq)) ∷
     []
 
 pub starred-right : map (λ t. t .answered) starred ≡ map (λ t. t .said) starred

@@ -27,12 +27,14 @@ more s i h k =
 
 -- with n of them, 256 or all, it is what is to be stored
 long : (s : List ℕ) (n : ℕ) → 256 < length s → n ≡ 256 → _≡_ {A = Stored} (record { bytes = filled s n; len = n }) (stored s)
+unfolding stored
 long s n h e =
     let z : 256 - length s ≡ 0 = omega arith in
     let m : min 256 (length s) ≡ 256 = omega arith in
     rw (e, z, m)
 
 short : (s : List ℕ) (n : ℕ) → length s ≤ 256 → n ≡ length s → _≡_ {A = Stored} (record { bytes = filled s n; len = n }) (stored s)
+unfolding stored
 short s n h e =
     let m : min 256 (length s) ≡ length s = omega arith in
     rw (e, m, take-all 256 s h, take-length s)

@@ -1,0 +1,14 @@
+-- `take_refused` meets its contract.
+-- Assumes nothing.
+use borrow.Author.Needs.{needs}
+use Rattle.dsp.proofs.DspSequencer.take_refused.Statement.{statement}
+use Rattle.dsp.proofs.DspSequencer.take_refused.Tie as tie
+
+no-nack-requires : tie.Need-no-nack-requires
+no-nack-requires c κs = search needs
+
+returns : tie.Need-returns
+returns c = rw (c .no-nack .ensures)
+
+pub take-refused-spec : {M : Type 1} → statement M
+take-refused-spec = tie.close (tie.spec no-nack-requires returns)

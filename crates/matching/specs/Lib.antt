@@ -1,0 +1,9 @@
+pub mod Matching
+pub mod Machine
+pub mod Calls
+pub mod Embeds
+pub mod Leftmost
+pub mod Ticked
+pub mod Called
+pub mod Entries
+pub mod Example

@@ -1,0 +1,62 @@
+-- A call is accepted exactly where no number applies; and what an accepted call tells of its reading and its bytes.
+-- Assumes nothing.
+use mathlib.Core.Path.{_≡_, refl, sym}
+use mathlib.Core.Bool.{Bool, true, false, not, _&&_, true≢false}
+use mathlib.Core.List.{List, [], _∷_}
+use Prim.Native.Nat.{ℕ, _≤_}
+use lib.Dec.{ltb}
+use borrow.Author.Tests.{ltb-false}
+use Rattle.protocol.specs.Refusals.{Applies, outcome, lowest}
+use Rattle.protocol.specs.declared.refusal.Outcome.{Outcome}
+use Rattle.protocol.specs.declared.refusal.Outcome.the-variants.{Accepted, Refused}
+use Rattle.sequence.specs.Accepted.{applies, none, checkRefusals, feedRefusals}
+
+abbrev pub accepted : Outcome → Bool
+accepted Accepted = true
+accepted (Refused r) = false
+
+-- by the tests of 3 and 11, and of 1 and 2 before them
+check-numbers : (b c : Bool) → accepted (outcome (lowest (applies 3 b ∷ applies 11 c ∷ []))) ≡ none (applies 3 b ∷ applies 11 c ∷ [])
+check-numbers true c = refl
+check-numbers false true = refl
+check-numbers false false = refl
+
+feed-numbers : (a b : Bool) (l : List Applies) → accepted (outcome (lowest l)) ≡ none l
+    → accepted (outcome (lowest (applies 1 a ∷ applies 2 b ∷ l))) ≡ none (applies 1 a ∷ applies 2 b ∷ l)
+feed-numbers true b l h = refl
+feed-numbers false true l h = refl
+feed-numbers false false l h = h
+
+pub check-accepted : (last t : ℕ) → accepted (outcome (lowest (checkRefusals last t))) ≡ none (checkRefusals last t)
+check-accepted last t = check-numbers (ltb 18_446_744_071_709_551_615 t) (ltb t last)
+
+pub feed-accepted : (x y last t : ℕ) → accepted (outcome (lowest (feedRefusals x y last t))) ≡ none (feedRefusals x y last t)
+feed-accepted x y last t = feed-numbers (ltb 256 x) (ltb 256 y) (checkRefusals last t) (check-accepted last t)
+
+-- ---- what none says
+
+first : (a b : Bool) → not a && b ≡ true → (a ≡ false) × (b ≡ true)
+first true b h = absurd (true≢false (sym h))
+first false b h = (refl, h)
+
+-- what an accepted check tells of its reading
+pub record InTime (last t : ℕ) : Type 0 where
+  pub small : t ≤ 18_446_744_071_709_551_615
+  pub later : last ≤ t
+
+pub check-fits : (last t : ℕ) → none (checkRefusals last t) ≡ true → InTime last t
+check-fits last t h =
+    let limit = first (ltb 18_446_744_071_709_551_615 t) (none (applies 11 (ltb t last) ∷ [])) h in
+    record { small = ltb-false 18_446_744_071_709_551_615 t (limit .0); later = ltb-false t last (first (ltb t last) true (limit .1) .0) }
+
+-- what an accepted feed tells of its bytes and its reading
+pub record Fits (x y last t : ℕ) : Type 0 where
+  pub text : x ≤ 256
+  pub payload : y ≤ 256
+  pub time : InTime last t
+
+pub feed-fits : (x y last t : ℕ) → none (feedRefusals x y last t) ≡ true → Fits x y last t
+feed-fits x y last t h =
+    let text = first (ltb 256 x) (none (applies 2 (ltb 256 y) ∷ checkRefusals last t)) h in
+    let payload = first (ltb 256 y) (none (checkRefusals last t)) (text .1) in
+    record { text = ltb-false 256 x (text .0); payload = ltb-false 256 y (payload .0); time = check-fits last t (payload .1) }
