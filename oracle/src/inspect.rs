@@ -28,6 +28,35 @@ pub fn dsp(seq: &DspSequencer) -> Dsp<'_> {
     }
 }
 
+/// A copy, for a result while the sequence goes on.
+pub fn copy_dsp(seq: &DspSequencer) -> DspSequencer {
+    DspSequencer {
+        step: copy_dsp_step(&seq.step),
+        status: seq.status.clone(),
+        hw_info: seq.hw_info.clone(),
+        dev_info: seq.dev_info.clone(),
+        prod_info: seq.prod_info.clone(),
+        config: seq.config.clone(),
+        deadline: seq.deadline,
+        refused: seq.refused.clone(),
+        power_mode_unanswered: seq.power_mode_unanswered,
+    }
+}
+
+fn copy_dsp_step(step: &DspStep) -> DspStep {
+    match step {
+        DspStep::WaitStatus => DspStep::WaitStatus,
+        DspStep::WaitDspQuery => DspStep::WaitDspQuery,
+        DspStep::WaitDevInfo => DspStep::WaitDevInfo,
+        DspStep::WaitProdInfo0 => DspStep::WaitProdInfo0,
+        DspStep::WaitProdInfo1 => DspStep::WaitProdInfo1,
+        DspStep::WaitProdInfo2 => DspStep::WaitProdInfo2,
+        DspStep::WaitConfig => DspStep::WaitConfig,
+        DspStep::WaitPowerMode => DspStep::WaitPowerMode,
+        DspStep::Done => DspStep::Done,
+    }
+}
+
 fn dsp_step(step: &DspStep) -> &'static str {
     match step {
         DspStep::WaitStatus => "WaitStatus",

@@ -1,5 +1,6 @@
 //! The Rust that the port is compared with: ironsight's sequencers and
-//! records, with the two clocks of `seq` handed in.
+//! records, with the two clocks of `seq` handed in; and the front end that
+//! runs lists of calls with them.
 
 #[path = "../ironsight/src/addr.rs"]
 pub mod addr;
@@ -17,3 +18,12 @@ pub mod frame;
 
 // pub mod seq, from build.rs
 include!(concat!(env!("OUT_DIR"), "/modules.rs"));
+
+pub mod compare;
+pub mod coverage;
+pub mod dsp;
+pub mod front;
+pub mod generate;
+pub mod list;
+pub mod refusal;
+pub mod write;

@@ -1,0 +1,109 @@
+//! compare N [SEED] --replay PATH [--bad]: runs N calls of each sequence
+//! and model through the Rust and through the program at PATH.
+
+use std::io;
+use std::process::ExitCode;
+use std::time::{SystemTime, UNIX_EPOCH};
+
+use oracle::compare::{Difference, LIST_LINES, Program, Source};
+use oracle::coverage::Coverage;
+use oracle::generate::{LEANINGS, Leaning};
+
+const USAGE: &str = "usage: compare N [SEED] --replay PATH [--bad]";
+
+struct Task {
+    calls: u64,
+    seed: u64,
+    bad: bool,
+    program: Program,
+}
+
+fn main() -> ExitCode {
+    let Some(task) = task() else {
+        eprintln!("{USAGE}");
+        return ExitCode::from(2);
+    };
+    println!("seed {}", task.seed);
+    let mut coverage = Coverage::default();
+    for leaning in LEANINGS {
+        match compare(&task, leaning) {
+            Ok(Ok(counted)) => coverage.add(&counted),
+            Ok(Err((list, difference))) => return differs(&list, &difference),
+            Err(error) => {
+                eprintln!("compare: {}: {error}", task.program.path.display());
+                return ExitCode::FAILURE;
+            }
+        }
+    }
+    println!("seed {}: no difference\n\n{coverage}", task.seed);
+    let mut missing = coverage.missing();
+    if task.bad {
+        missing.extend(coverage.missing_reasons());
+    }
+    for what in &missing {
+        println!("never met: {what}");
+    }
+    ExitCode::from(u8::from(!missing.is_empty()))
+}
+
+fn task() -> Option<Task> {
+    let (mut numbers, mut path, mut bad) = (Vec::new(), None, false);
+    let mut args = std::env::args_os().skip(1);
+    while let Some(arg) = args.next() {
+        match arg.to_str()? {
+            "--replay" => path = Some(args.next()?),
+            "--bad" => bad = true,
+            number => numbers.push(number.parse().ok()?),
+        }
+    }
+    let (calls, seed) = match numbers[..] {
+        [calls] => (calls, seed_from_clock()),
+        [calls, seed] => (calls, seed),
+        _ => return None,
+    };
+    Some(Task {
+        calls,
+        seed,
+        bad,
+        program: Program { path: path? },
+    })
+}
+
+fn seed_from_clock() -> u64 {
+    let since = SystemTime::now().duration_since(UNIX_EPOCH);
+    since.map_or(1, |since| since.as_secs())
+}
+
+type Shown = (Vec<String>, Difference);
+
+/// The coverage, or the smallest list that shows a difference.
+fn compare(task: &Task, leaning: Leaning) -> io::Result<Result<Coverage, Shown>> {
+    let mut source = Source::new(task.seed, leaning, task.bad);
+    while source.coverage.calls < task.calls {
+        let list = source.list(LIST_LINES, task.calls - source.coverage.calls);
+        if let Some(difference) = task.program.difference(&list)? {
+            return Ok(Err(task.program.smallest(&list, difference)?));
+        }
+    }
+    Ok(Ok(source.coverage))
+}
+
+fn differs(list: &[String], difference: &Difference) -> ExitCode {
+    println!("a difference; the smallest list found:\n");
+    for line in list {
+        println!("{line}");
+    }
+    let (rust, program) = (shown(&difference.front), shown(&difference.program));
+    println!("\nthe Rust:    {rust}\nthe program: {program}");
+    let pairs = rust.bytes().zip(program.bytes());
+    let same = pairs.take_while(|(a, b)| a == b).count();
+    let from = |text: &str| String::from_utf8_lossy(&text.as_bytes()[same..]).into_owned();
+    println!("\nThey differ from byte {} on:", same + 1);
+    println!("the Rust:    {:.60}", from(rust));
+    println!("the program: {:.60}", from(program));
+    ExitCode::FAILURE
+}
+
+fn shown(answer: &Option<String>) -> &str {
+    answer.as_deref().unwrap_or("(nothing)")
+}

@@ -1,0 +1,52 @@
+//! sample FILE: writes the stored list, good calls and then bad lines among others.
+
+use std::path::Path;
+use std::process::ExitCode;
+use std::{fs, io};
+
+use oracle::compare::{Source, as_text};
+use oracle::coverage::Coverage;
+use oracle::generate::LEANINGS;
+
+const USAGE: &str = "usage: sample FILE";
+const SEED: u64 = 1;
+/// Of each sequence and model.
+const GOOD_CALLS: u64 = 1_000;
+const CALLS_BETWEEN_BAD_LINES: u64 = 1_200;
+
+fn main() -> ExitCode {
+    let args: Vec<_> = std::env::args_os().skip(1).collect();
+    let [file] = &args[..] else {
+        eprintln!("{USAGE}");
+        return ExitCode::from(2);
+    };
+    match sample(Path::new(file)) {
+        Ok(missing) => {
+            for what in &missing {
+                eprintln!("never met: {what}");
+            }
+            ExitCode::from(u8::from(!missing.is_empty()))
+        }
+        Err(error) => {
+            eprintln!("sample: {}: {error}", file.display());
+            ExitCode::FAILURE
+        }
+    }
+}
+
+/// Writes the list, and gives what it never meets.
+fn sample(file: &Path) -> io::Result<Vec<String>> {
+    let (mut lines, mut coverage) = (Vec::new(), Coverage::default());
+    for leaning in LEANINGS {
+        let mut source = Source::new(SEED, leaning, false);
+        lines.extend(source.list(usize::MAX, GOOD_CALLS).lines);
+        coverage.add(&source.coverage);
+    }
+    let mut missing = coverage.missing();
+
+    let mut source = Source::new(SEED, LEANINGS[0], true);
+    lines.extend(source.list(usize::MAX, CALLS_BETWEEN_BAD_LINES).lines);
+    missing.extend(source.coverage.missing_reasons());
+    fs::write(file, as_text(&lines))?;
+    Ok(missing)
+}

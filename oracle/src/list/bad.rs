@@ -1,0 +1,108 @@
+//! Why a line can't be read, and where reading stopped.
+
+use std::fmt;
+
+#[derive(Debug, Clone, Copy, PartialEq, Eq)]
+pub struct Bad {
+    /// Counts bytes from 1.
+    pub column: usize,
+    pub reason: Reason,
+}
+
+#[derive(Debug, Clone, Copy, PartialEq, Eq)]
+pub enum Reason {
+    UnknownCall,
+    UnknownModel,
+    UnknownSource,
+    UnknownKind,
+    Expected(&'static str),
+    NotANumber,
+    OutOfRange,
+    NotABool,
+    NotAFloat,
+    NaN,
+    NotAHexDigit,
+    OddHexDigits,
+    ControlByte,
+    BadEscape,
+    NotClosed,
+    ParamCount,
+    EndOfLine,
+    NoSequence,
+    LineTooLong,
+}
+
+impl Bad {
+    /// `index` counts bytes from 0.
+    pub fn at(index: usize, reason: Reason) -> Bad {
+        Bad {
+            column: index + 1,
+            reason,
+        }
+    }
+}
+
+impl Reason {
+    /// One of each, for counting. A missing field is named NAME here.
+    pub const ALL: [Reason; 19] = [
+        Reason::UnknownCall,
+        Reason::UnknownModel,
+        Reason::UnknownSource,
+        Reason::UnknownKind,
+        Reason::Expected("NAME"),
+        Reason::NotANumber,
+        Reason::OutOfRange,
+        Reason::NotABool,
+        Reason::NotAFloat,
+        Reason::NaN,
+        Reason::NotAHexDigit,
+        Reason::OddHexDigits,
+        Reason::ControlByte,
+        Reason::BadEscape,
+        Reason::NotClosed,
+        Reason::ParamCount,
+        Reason::EndOfLine,
+        Reason::NoSequence,
+        Reason::LineTooLong,
+    ];
+
+    /// The reason with no field's name in it.
+    pub fn unnamed(self) -> Reason {
+        match self {
+            Reason::Expected(_) => Reason::Expected("NAME"),
+            other => other,
+        }
+    }
+}
+
+impl fmt::Display for Reason {
+    fn fmt(&self, f: &mut fmt::Formatter<'_>) -> fmt::Result {
+        f.write_str(match self {
+            Reason::UnknownCall => "unknown call",
+            Reason::UnknownModel => "unknown model",
+            Reason::UnknownSource => "unknown source",
+            Reason::UnknownKind => "unknown kind",
+            Reason::Expected(name) => return write!(f, "{name}= expected"),
+            Reason::NotANumber => "not a number",
+            Reason::OutOfRange => "out of range",
+            Reason::NotABool => "not a bool",
+            Reason::NotAFloat => "not a float",
+            Reason::NaN => "a NaN can't be read",
+            Reason::NotAHexDigit => "not a hex digit",
+            Reason::OddHexDigits => "odd number of hex digits",
+            Reason::ControlByte => "control byte in a text",
+            Reason::BadEscape => "bad escape",
+            Reason::NotClosed => "text not closed",
+            Reason::ParamCount => "34 numbers expected",
+            Reason::EndOfLine => "end of line expected",
+            Reason::NoSequence => "no sequence has begun",
+            Reason::LineTooLong => "line longer than 65536 bytes",
+        })
+    }
+}
+
+impl fmt::Display for Bad {
+    fn fmt(&self, f: &mut fmt::Formatter<'_>) -> fmt::Result {
+        write!(f, "bad line at column {}: {}", self.column, self.reason)
+    }
+}

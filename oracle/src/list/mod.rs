@@ -1,0 +1,143 @@
+//! Reads a line of a list of calls, as docs/REPLAY.md says.
+
+mod bad;
+mod cursor;
+mod kind;
+
+pub use bad::{Bad, Reason};
+use cursor::Cursor;
+
+use crate::addr::BusAddr;
+use crate::protocol::Message;
+use crate::protocol::handshake::DeviceModel;
+
+/// The longest line that is read, in bytes without its line feed.
+pub const LONGEST: usize = 65_536;
+
+/// A call of a list.
+pub enum Call {
+    Begin(Begin),
+    Feed(Box<Feed>),
+    Check {
+        now: u64,
+    },
+    Result,
+    Take,
+    Ack {
+        model: DeviceModel,
+        src: BusAddr,
+        type_id: u8,
+    },
+    Keepalive {
+        model: Option<DeviceModel>,
+    },
+    Model {
+        payload: Vec<u8>,
+    },
+}
+
+/// The sequence that a line begins.
+pub enum Begin {
+    Dsp,
+}
+
+/// The message holds the numbers only; its bytes stand beside it.
+pub struct Feed {
+    pub now: u64,
+    pub src: BusAddr,
+    pub type_id: u8,
+    pub message: Message,
+    pub text: Vec<u8>,
+    pub payload: Vec<u8>,
+}
+
+/// Reads a line without its line feed. A comment gives no call.
+pub fn read(line: &[u8], running: bool) -> Result<Option<Call>, Bad> {
+    if line.len() > LONGEST {
+        return Err(Bad::at(LONGEST, Reason::LineTooLong));
+    }
+    let mut c = Cursor::new(line.strip_suffix(b"\r").unwrap_or(line));
+    let (at, word) = c.word();
+    if word.is_empty() || word.starts_with(b"#") {
+        return Ok(None);
+    }
+    let call = match word {
+        b"dsp" => Call::Begin(Begin::Dsp),
+        b"feed" | b"check" | b"result" | b"take" if !running => {
+            return Err(Bad::at(0, Reason::NoSequence));
+        }
+        b"feed" => Call::Feed(Box::new(feed(&mut c)?)),
+        b"check" => Call::Check { now: c.number()? },
+        b"result" => Call::Result,
+        b"take" => Call::Take,
+        b"ack" => ack(&mut c)?,
+        b"keepalive" => keepalive(&mut c)?,
+        b"model" => model_of(&mut c)?,
+        _ => return Err(Bad::at(at, Reason::UnknownCall)),
+    };
+    c.end()?;
+    Ok(Some(call))
+}
+
+fn feed(c: &mut Cursor) -> Result<Feed, Bad> {
+    let now = c.number()?;
+    let src = source(c)?;
+    let type_id = c.number()?;
+    Ok(Feed {
+        now,
+        src,
+        type_id,
+        message: kind::kind(c, src, type_id)?,
+        text: lent(c, "text")?,
+        payload: lent(c, "payload")?,
+    })
+}
+
+/// The bytes of a field that may be left out.
+fn lent(c: &mut Cursor, name: &str) -> Result<Vec<u8>, Bad> {
+    if c.named(name) {
+        c.bytes()
+    } else {
+        Ok(Vec::new())
+    }
+}
+
+fn ack(c: &mut Cursor) -> Result<Call, Bad> {
+    Ok(Call::Ack {
+        model: model(c)?,
+        src: source(c)?,
+        type_id: c.number()?,
+    })
+}
+
+fn keepalive(c: &mut Cursor) -> Result<Call, Bad> {
+    let model = if c.at_end() { None } else { Some(model(c)?) };
+    Ok(Call::Keepalive { model })
+}
+
+fn model_of(c: &mut Cursor) -> Result<Call, Bad> {
+    c.skip_blanks();
+    Ok(Call::Model {
+        payload: c.bytes()?,
+    })
+}
+
+fn model(c: &mut Cursor) -> Result<DeviceModel, Bad> {
+    let (at, word) = c.word();
+    match word {
+        b"Mevo" => Ok(DeviceModel::Mevo),
+        b"Xi" => Ok(DeviceModel::Xi),
+        _ => Err(Bad::at(at, Reason::UnknownModel)),
+    }
+}
+
+fn source(c: &mut Cursor) -> Result<BusAddr, Bad> {
+    let (at, word) = c.word();
+    match word {
+        b"App" => Ok(BusAddr::App),
+        b"Pi" => Ok(BusAddr::Pi),
+        b"Avr" => Ok(BusAddr::Avr),
+        b"Dsp" => Ok(BusAddr::Dsp),
+        _ => Err(Bad::at(at, Reason::UnknownSource)),
+    }
+}
