@@ -30,7 +30,7 @@ use Rattle.dsp.specs.declared.DspStarted.{DspStarted}
 use Rattle.dsp.specs.declared.DspFed.{DspFed}
 use Rattle.dsp.specs.declared.DspFinished.{DspFinished}
 use Rattle.dsp.specs.declared.DspTaken.{DspTaken}
-use Rattle.dsp.specs.Table.{Row, entry1, entry2, entry3, entry4, entry5, entry6, entry7, entry8, rowsFor, noReplies, noSync, noDeadline, noNack}
+use Rattle.dsp.specs.Table.{Row, rowsFor, noReplies, noSync, noDeadline, noNack}
 
 -- ---- steps and rows
 
@@ -50,8 +50,9 @@ count Done = 8
 abbrev pub past : Row
 past = record { reply = λ e. false; wait = forever; send = λ m. noAction; store = λ e y. y }
 
+-- the row number k; a Xi's table has them all
 abbrev pub row : ℕ → Row
-row k = getD (entry1 ∷ entry2 ∷ entry3 ∷ entry4 ∷ entry5 ∷ entry6 ∷ entry7 ∷ entry8 ∷ []) k past
+row k = getD (rowsFor DeviceModel.Xi) k past
 
 -- the step at which the model's row number k is awaited. 01: "Done is the step after the last entry of the table."
 abbrev pub stepAt : DeviceModel → ℕ → DspStep

@@ -1,18 +1,18 @@
 -- Laws on numbers with a sign and on floats, once for every width. Assumes nothing.
 use mathlib.Core.Path.{_≡_, refl, sym, ap, _∙_, subst}
 use mathlib.Core.Bool.{Bool, true, false, not}
-use Prim.Native.Nat.{ℕ, zero, suc, _+_, _-_, _%_, _<_, _≤_, _^_, zero-le, suc-le-suc}
+use Prim.Native.Nat.{ℕ, zero, suc, _+_, _%_, _<_, _≤_, _^_, zero-le, suc-le-suc}
 use native.Mathlib.Nat.{zero-add}
 use native.Mathlib.Omega.{arith}
 use borrow.Author.Tests.{le-ltb, ltb-true}
-use lib.Dec.{T, leb, ltb}
-use lib.Ieee.{Float, nan, inf, fin, binary64, isNan, nanBits, eq, ones, hid, top}
+use lib.Dec.{T, leb}
+use lib.Ieee.{Float, nan, inf, fin, binary64, isNan, nanBits, eq}
 use lib.Ieee.Bits.{nanBits-above}
 use lib.IntN.{ℤ, pos, negsuc, _-ℤ_, natAbs}
 use lib.Signed.{mag, ltZ, nonNeg}
 use mir.Facts.{sfits-widen, toZ-ofZ, toZ-pos}
 use mir.Syntax.{Width, w64}
-use mir.Val.{Fits, SFits, bits, hbits, toZ, ofZ}
+use mir.Val.{Fits, SFits, hbits, toZ, ofZ}
 
 minus-below : (k : ℕ) → negsuc 0 -ℤ negsuc k ≡ pos k
 minus-below k = rw (le-ltb (suc k) 1 (suc-le-suc zero-le)) (ap pos (omega arith))
