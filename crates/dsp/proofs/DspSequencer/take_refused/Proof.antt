@@ -8,7 +8,7 @@ no-nack-requires : tie.Need-no-nack-requires
 no-nack-requires c κs = search needs
 
 returns : tie.Need-returns
-returns c = rw (c .no-nack .ensures)
+returns c = rw (← c .no-nack .ensures)
 
 pub take-refused-spec : {M : Type 1} → statement M
 take-refused-spec = tie.close (tie.spec no-nack-requires returns)
