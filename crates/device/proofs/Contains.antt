@@ -74,7 +74,7 @@ past-the-end : (w s : List ℕ) (i : ℕ) → length s < i → StandsAt w s i �
 past-the-end [] s i h e = refl
 past-the-end (x ∷ w) s i h e = absurd (omega (arith, simp (length-take, length-drop) at (ap length e)))
 
--- 01: "stand together anywhere"
+-- the test says that the needle stands somewhere
 pub contains-iff : (w s : List ℕ) → (contains w s ≡ true) ↔ Stands w s
 contains-iff w s = (found, stands)
   where

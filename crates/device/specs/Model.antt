@@ -4,6 +4,8 @@ use mathlib.Core.Bool.{Bool, true, false, cond}
 use mathlib.Core.List.{List, [], _∷_}
 use Prim.Native.Nat.{ℕ}
 use Rattle.device.specs.Search.{contains}
+use Rattle.protocol.specs.declared.handshake.OptionDevInfoResp.{OptionDevInfoResp}
+use Rattle.protocol.specs.Stored.{content}
 use Rattle.device.specs.declared.model.DeviceModel.{DeviceModel}
 use Rattle.device.specs.declared.model.DeviceModel.the-variants.{Mevo, Xi}
 
@@ -11,11 +13,15 @@ use Rattle.device.specs.declared.model.DeviceModel.the-variants.{Mevo, X
 abbrev pub xiTag : List ℕ
 xiTag = 0x46 ∷ 0x53 ∷ 0x20 ∷ 0x58 ∷ 0x69 ∷ []
 
--- 01: "The model is Xi if the five bytes "FS Xi" stand together anywhere in the device-info payload, else Mevo."
+-- a Xi has the tag somewhere in its payload; every other unit is a Mevo
 abbrev pub modelOf : List ℕ → DeviceModel
 modelOf payload = cond (contains xiTag payload) Xi Mevo
 
--- 01: "Only Mevo has a camera."
+-- the model that a stored device info names, Mevo before there is one
+abbrev pub modelIn : OptionDevInfoResp → DeviceModel
+modelIn i = cond (i .some) (modelOf (content (i .value .payload))) Mevo
+
+-- a Xi has no camera, and so no Pi
 abbrev pub hasCamera : DeviceModel → Bool
 hasCamera Mevo = true
 hasCamera Xi = false

@@ -11,7 +11,7 @@ use lib.ListN.{length, take, drop}
 abbrev pub StandsAt : List ℕ → List ℕ → ℕ → Type 0
 StandsAt w s i = take (length w) (drop i s) ≡ w
 
--- 01: its bytes "stand together anywhere" in s: there is a place from which w stands. The empty needle stands everywhere.
+-- w stands in s: there is a place from which its bytes follow one another. The empty needle stands everywhere.
 abbrev pub Stands : List ℕ → List ℕ → Type 0
 Stands w s = (i : ℕ) × StandsAt w s i
 

@@ -18,8 +18,7 @@ use Rattle.device.specs.declared.model.DeviceModel.the-variants.{Mevo, X
 abbrev pub isResult : ℕ → Bool
 isResult id = eqb id 0xE8 || eqb id 0xD4
 
--- 01: "A result acknowledgement is sent only for model Xi, src Avr and type_id 0xD4 or 0xE8: ConfigAck to Avr with bus_addr 0x10 and
--- the type_id with its top bit cleared."
+-- only a Xi's flight results are acknowledged, and only those from its Avr
 abbrev pub resultAck : DeviceModel → BusAddr → ℕ → Action
 resultAck Mevo src id = noAction
 resultAck Xi src id = cond (eqb (byteOf src) 0x30 && isResult id) (sendTo BusAddr.Avr (Command.ConfigAck (ackOf id))) noAction
@@ -27,6 +26,6 @@ resultAck Xi src id = cond (eqb (byteOf src) 0x30 && isResult id) (sendTo BusAdd
 abbrev pub poll : Bool → BusAddr → Action
 poll p d = sendTo d (Command.StatusPoll (record { «pi_mode» = p }))
 
--- 01: "Keepalive: StatusPoll to Dsp, to Avr, and on Mevo to Pi, in that order; pi_mode is true only to Pi."
+-- the polls of a keepalive, in the order of sending; the Pi's only where there is a camera
 abbrev pub keepaliveFor : DeviceModel → List Action
 keepaliveFor m = poll false BusAddr.Dsp ∷ poll false BusAddr.Avr ∷ cond (hasCamera m) (poll true BusAddr.Pi) noAction ∷ []

@@ -1,3 +1,4 @@
 pub mod States
 pub mod OneModel
 pub mod Whole
+pub mod Days

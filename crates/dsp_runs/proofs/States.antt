@@ -1,106 +1,136 @@
--- With one model given, the state is a function of the events that ticked, the last accepted reading and the nack that is kept; and each
--- accepted event moves it by one row of the table, or leaves it.
+-- With one model given, a DSP start-up is a sequence that goes by rows: its state is a function of the events that ticked, the last
+-- accepted reading and the nack that is kept.
 -- Assumes nothing.
-use Prim.Native.Nat.{ℕ, zero, suc, _+_, _≤_}
+use Prim.Native.Nat.{ℕ, zero, suc, _≤_, _<_}
 use native.Mathlib.Omega.{arith}
-use mathlib.Core.Path.{_≡_, refl}
-use mathlib.Core.Bool.{Bool, true, false, cond, _&&_}
+use mathlib.Core.Path.{_≡_, refl, ap, _∙_}
+use mathlib.Core.Bool.{Bool, true, false, cond}
 use mathlib.Core.List.{List, [], _∷_, _++_}
-use lib.Dec.{eqb}
 use lib.ListN.{length, getD}
+use Rattle.protocol.specs.declared.status.OptionNack.{OptionNack}
+use Rattle.protocol.specs.declared.refusal.Outcome.{Outcome}
+use Rattle.protocol.specs.Carried.{noNack}
 use Rattle.device.specs.declared.model.DeviceModel.{DeviceModel}
-use Rattle.device.specs.declared.model.DeviceModel.the-variants.{Mevo, Xi}
-use Rattle.matching.specs.Machine.{readingOf, ticks, heard}
-use Rattle.sequence.specs.declared.OptionInstant.{OptionInstant}
-use Rattle.sequence.specs.Events.{Event, fed, checked, reading, Wait, forever, nanos, over}
-use Rattle.dsp.specs.declared.OptionNack.{OptionNack}
-use Rattle.dsp.specs.declared.DspReplies.{DspReplies}
+use Rattle.device.specs.Model.{hasPowerMode}
+use Rattle.matching.specs.Promise.{Each, clock}
+use Rattle.matching.proofs.Machine.{tickedFrom}
+use Rattle.matching.proofs.Called.{Called}
+use Rattle.sequence.specs.Accepted.{none, feedRefusals, checkRefusals, feedOutcome, checkOutcome}
+use Rattle.sequence.specs.Events.{Envelope, Event, fed, checked, reading}
+use Rattle.sequence.specs.Rows.{State}
+use Rattle.sequence.specs.Calls.{feed, check, ask}
+use Rattle.sequence.proofs.Acceptance.{feed-accepted, check-accepted, feed-fits, check-fits}
+use Rattle.sequence.proofs.Events.{rises, judge}
+use Rattle.sequence.proofs.Standing as rows
+use Rattle.dsp_steps.specs.declared.DspStep.{DspStep}
+use Rattle.dsp_steps.specs.declared.DspStep.the-variants.{WaitStatus, WaitDspQuery, WaitDevInfo, WaitProdInfo0, WaitProdInfo1, WaitProdInfo2, WaitConfig, WaitPowerMode, Done}
+use Rattle.dsp_steps.specs.declared.DspReplies.{DspReplies}
+use Rattle.dsp_steps.specs.Stores.{noReplies}
+use Rattle.dsp_steps.specs.Table.{row, next, stepsFor, table}
+use Rattle.dsp_steps.specs.Answers.{unview}
 use Rattle.dsp.specs.declared.DspSequencer.{DspSequencer}
-use Rattle.dsp.specs.Table.{Row, rowsFor, test, table, statusIn, hwInfoIn, devInfoIn, prodInfoIn, configIn, nackIn, unansweredIn, noStatus, noHwInfo, noDevInfo, noProdInfo, noConfig, noDeadline}
-use Rattle.dsp.specs.Answers.{row, past, stepAt, idle, due, passes, tickedAt, advanceAt, withLast, advance}
+use Rattle.dsp.specs.declared.DspFed.{DspFed}
+use Rattle.dsp.specs.Answers.{answered, accepted, refused, taken, withNack, isDone}
+use Rattle.dsp.specs.Calls.{DspCall, into-result, take-refused, event}
 
--- f of the k-th event, d if there is none
-abbrev pub item : {A : Type 0} → ℕ → (Event → A) → A → List Event → A
-item k f d [] = d
-item zero f d (e ∷ es) = f e
-item (suc k) f d (e ∷ es) = item k f d es
+-- the sequencer after a call, if it went by the model m
+abbrev pub afterFor : DeviceModel → DspSequencer → DspCall → DspSequencer
+afterFor m s (feed e t) = answered m (feedOutcome (e .text) (e .payload) (s .last) t) s (fed e t) .seq
+afterFor m s (check t) = answered m (checkOutcome (s .last) t) s (checked t) .seq
+afterFor m s (ask into-result) = s
+afterFor m s (ask take-refused) = taken s .seq
 
-abbrev pub repliesOf : List Event → OptionNack → DspReplies
-repliesOf es x = record {
-  status = item 0 statusIn noStatus es;
-  «hw_info» = item 1 (λ e. hwInfoIn e noHwInfo) noHwInfo es;
-  «dev_info» = item 2 devInfoIn noDevInfo es;
-  «prod_info» = item 3 prodInfoIn noProdInfo es ∷ item 4 prodInfoIn noProdInfo es ∷ item 5 prodInfoIn noProdInfo es ∷ [];
-  config = item 6 configIn noConfig es;
-  refused = x;
-  «power_mode_unanswered» = item 7 (λ e. unansweredIn e false) false es;
-}
+module _ (m : DeviceModel) where
+  -- the nack that is kept once a row is ticked, x being kept before
+  abbrev pub keep : DspStep → Event Envelope → OptionNack → OptionNack
+  keep k e x = row m k .store e (withNack x noReplies) .refused
 
--- the deadline of an entry with this wait, the one before being ticked at t
-abbrev pub deadlineOf : Wait → ℕ → OptionInstant
-deadlineOf forever t = noDeadline
-deadlineOf (nanos n) t = record { some = true; value = t + n }
+  keeps : (k : DspStep) (e : Event Envelope) (x : OptionNack) (y : DspReplies)
+      → row m k .store e (withNack x y) ≡ withNack (keep k e x) (row m k .store e y)
+  keeps WaitStatus e x y = refl
+  keeps WaitDspQuery e x y = refl
+  keeps WaitDevInfo e x y = refl
+  keeps WaitProdInfo0 e x y = refl
+  keeps WaitProdInfo1 e x y = refl
+  keeps WaitProdInfo2 e x y = refl
+  keeps WaitConfig e x y = refl
+  keeps WaitPowerMode e x y = refl
+  keeps Done e x y = refl
 
-abbrev pub stateOf : DeviceModel → List Event → ℕ → OptionNack → DspSequencer
-stateOf m es t x = record {
-  step = stepAt m (length es);
-  replies = repliesOf es x;
-  deadline = deadlineOf (getD (rowsFor m) (length es) past .wait) (readingOf reading es);
-  last = t;
-}
+  -- the steps follow one another, with a power-mode step or without
+  follows : (k : ℕ) → k < length (stepsFor m) → next m (getD (stepsFor m) k Done) ≡ getD (stepsFor m) (suc k) Done
+  follows zero h = refl
+  follows (suc zero) h = refl
+  follows (suc (suc zero)) h = refl
+  follows (suc (suc (suc zero))) h = refl
+  follows (suc (suc (suc (suc zero)))) h = refl
+  follows (suc (suc (suc (suc (suc zero))))) h = refl
+  follows (suc (suc (suc (suc (suc (suc zero)))))) h = go (hasPowerMode m)
+    where
+      go : (b : Bool) → cond b WaitPowerMode Done ≡ getD (cond b (WaitPowerMode ∷ []) []) 0 Done
+      go true = refl
+      go false = refl
+  follows (suc (suc (suc (suc (suc (suc (suc k))))))) h = go (hasPowerMode m) k
+    where
+      go : (b : Bool) (k : ℕ) → next m (getD (cond b (WaitPowerMode ∷ []) []) k Done) ≡ getD (cond b (WaitPowerMode ∷ []) []) (suc k) Done
+      go true zero = refl
+      go true (suc k) = refl
+      go false k = refl
 
--- the nack that is kept once e has come
-abbrev pub kept : DeviceModel → List Event → OptionNack → Event → OptionNack
-kept m es x e = cond (eqb (length es) 7 && ticks reading (table m) es e) (nackIn e x) x
+  path : rows.Path (row m) (next m) Done (stepsFor m) noReplies withNack keep
+  path = record { follows = follows; ended = refl; keeps = keeps }
 
--- at a deadline of its own a row passes what its test does
-due-over : (w : Wait) (t u : ℕ) → due w (deadlineOf w t) u ≡ over w t u
-due-over forever t u = refl
-due-over (nanos n) t u = refl
+  abbrev pub standing : List (Event Envelope) → OptionNack → State DspStep DspReplies
+  standing es x = rows.standing (row m) (next m) Done (stepsFor m) noReplies withNack keep es x
 
-passes-test : (r : Row) (s : DspSequencer) (t : ℕ) (e : Event) → s .deadline ≡ deadlineOf (r .wait) t → passes r s e ≡ test r t e
-passes-test r s t (fed e u) h = refl
-passes-test r s t (checked u) h = rw h (due-over (r .wait) t u)
+  abbrev pub stateOf : List (Event Envelope) → ℕ → OptionNack → DspSequencer
+  stateOf es t x = record { state = unview (standing es x); last = t }
 
--- the row k is ticked, or not
-abbrev Moves : DeviceModel → ℕ → List Event → ℕ → OptionNack → Event → Bool → Type 0
-Moves m k es t x e b =
-    cond b (tickedAt m k (withLast (stateOf m es t x) (reading e)) e) (idle (withLast (stateOf m es t x) (reading e))) .state
-    ≡ stateOf m (cond b (es ++ e ∷ []) es) (reading e) (cond (eqb (length es) 7 && b) (nackIn e x) x)
+  -- the nack that is kept after a call's event, or after none
+  abbrev pub keptAll : List (Event Envelope) → OptionNack → List (Event Envelope) → OptionNack
+  keptAll es x [] = x
+  keptAll es x (e ∷ l) = rows.kept (row m) (next m) Done (stepsFor m) noReplies withNack keep es x e
 
-moves : (m : DeviceModel) (k : ℕ) (es : List Event) (t : ℕ) (x : OptionNack) (e : Event) (b : Bool)
-    → Moves m k es t x e true → Moves m k es t x e false → Moves m k es t x e b
-moves m k es t x e true p q = p
-moves m k es t x e false p q = q
+  abbrev pub extra : List (Event Envelope) → ℕ → OptionNack → DspCall → OptionNack
+  extra es t x (feed e u) = keptAll es x (event t (feed e u))
+  extra es t x (check u) = keptAll es x (event t (check u))
+  extra es t x (ask into-result) = x
+  extra es t x (ask take-refused) = noNack
 
-abbrev pub Hears : DeviceModel → List Event → ℕ → OptionNack → Event → Type 0
-Hears m es t x e = advance m (stateOf m es t x) e .state ≡ stateOf m (heard reading (table m) es e) (reading e) (kept m es x e)
+  -- what a call that is the events l makes of the state
+  abbrev Goes : List (Event Envelope) → ℕ → OptionNack → DspFed → List (Event Envelope) → Type 0
+  Goes es t x f l = f .seq ≡ stateOf (tickedFrom reading (table m) es l) (clock reading t l) (keptAll es x l)
 
-at-row : (m : DeviceModel) (k : ℕ) (es : List Event) (t : ℕ) (x : OptionNack) (e : Event)
-    → deadlineOf (getD (rowsFor m) (length es) past .wait) (readingOf reading es) ≡ deadlineOf (row k .wait) (readingOf reading es)
-    → test (row k) (readingOf reading es) e ≡ ticks reading (table m) es e
-    → Moves m k es t x e true → Moves m k es t x e false
-    → cond (passes (row k) (withLast (stateOf m es t x) (reading e)) e) (tickedAt m k (withLast (stateOf m es t x) (reading e)) e) (idle (withLast (stateOf m es t x) (reading e))) .state
-    ≡ stateOf m (heard reading (table m) es e) (reading e) (kept m es x e)
-at-row m k es t x e d h p q =
-    rw (passes-test (row k) (withLast (stateOf m es t x) (reading e)) (readingOf reading es) e d, h) (moves m k es t x e (ticks reading (table m) es e) p q)
+  goes : (es : List (Event Envelope)) (t : ℕ) (x : OptionNack) (e : Event Envelope) → reading e ≤ 18_446_744_071_709_551_615
+      → Goes es t x (answered m Outcome.Accepted (stateOf es t x) e) (e ∷ [])
+  goes es t x e h =
+      ap (λ (s : State DspStep DspReplies). record { state = unview s; last = reading e })
+      (rows.moves (row m) (next m) Done (stepsFor m) noReplies withNack keep path es x e (omega arith))
 
--- once Done nothing moves
-rests : (m : DeviceModel) (s : DspSequencer) (e : Event) → advanceAt m 8 s e .state ≡ s
-rests m s (fed e t) = refl
-rests m s (checked t) = refl
+  one : (es : List (Event Envelope)) (t : ℕ) (x : OptionNack) (c : DspCall)
+      → afterFor m (stateOf es t x) c ≡ stateOf (tickedFrom reading (table m) es (event t c)) (clock reading t (event t c)) (extra es t x c)
+  one es t x (feed e u) =
+      let s = stateOf es t x in
+      judge (Goes es t x) (answered m Outcome.Accepted s (fed e u)) (refused s) (fed e u) (feedOutcome (e .text) (e .payload) t u)
+      (none (feedRefusals (e .text) (e .payload) t u)) (feed-accepted (e .text) (e .payload) t u)
+      (λ p. goes es t x (fed e u) (feed-fits (e .text) (e .payload) t u p .time .small))
+      (λ o. refl)
+  one es t x (check u) =
+      let s = stateOf es t x in
+      judge (Goes es t x) (answered m Outcome.Accepted s (checked u)) (refused s) (checked u) (checkOutcome t u)
+      (none (checkRefusals t u)) (check-accepted t u)
+      (λ p. goes es t x (checked u) (check-fits t u p .small))
+      (λ o. refl)
+  one es t x (ask into-result) = refl
+  one es t x (ask take-refused) = refl
 
-pub hears : (m : DeviceModel) (es : List Event) (t : ℕ) (x : OptionNack) (e : Event) → length es ≤ length (table m) → Hears m es t x e
-hears m [] t x e h = at-row m 0 [] t x e refl refl refl refl
-hears m (a ∷ []) t x e h = at-row m 1 (a ∷ []) t x e refl refl refl refl
-hears m (a ∷ b ∷ []) t x e h = at-row m 2 (a ∷ b ∷ []) t x e refl refl refl refl
-hears m (a ∷ b ∷ c ∷ []) t x e h = at-row m 3 (a ∷ b ∷ c ∷ []) t x e refl refl refl refl
-hears m (a ∷ b ∷ c ∷ d ∷ []) t x e h = at-row m 4 (a ∷ b ∷ c ∷ d ∷ []) t x e refl refl refl refl
-hears m (a ∷ b ∷ c ∷ d ∷ f ∷ []) t x e h = at-row m 5 (a ∷ b ∷ c ∷ d ∷ f ∷ []) t x e refl refl refl refl
-hears Mevo (a ∷ b ∷ c ∷ d ∷ f ∷ g ∷ []) t x e h = at-row Mevo 6 (a ∷ b ∷ c ∷ d ∷ f ∷ g ∷ []) t x e refl refl refl refl
-hears Xi (a ∷ b ∷ c ∷ d ∷ f ∷ g ∷ []) t x e h = at-row Xi 6 (a ∷ b ∷ c ∷ d ∷ f ∷ g ∷ []) t x e refl refl refl refl
-hears Mevo (a ∷ b ∷ c ∷ d ∷ f ∷ g ∷ i ∷ []) t x e h = rests Mevo (withLast (stateOf Mevo (a ∷ b ∷ c ∷ d ∷ f ∷ g ∷ i ∷ []) t x) (reading e)) e
-hears Xi (a ∷ b ∷ c ∷ d ∷ f ∷ g ∷ i ∷ []) t x e h = at-row Xi 7 (a ∷ b ∷ c ∷ d ∷ f ∷ g ∷ i ∷ []) t x e refl refl refl refl
-hears Mevo (a ∷ b ∷ c ∷ d ∷ f ∷ g ∷ i ∷ j ∷ es) t x e h = absurd (omega arith)
-hears Xi (a ∷ b ∷ c ∷ d ∷ f ∷ g ∷ i ∷ j ∷ []) t x e h = rests Xi (withLast (stateOf Xi (a ∷ b ∷ c ∷ d ∷ f ∷ g ∷ i ∷ j ∷ []) t x) (reading e)) e
-hears Xi (a ∷ b ∷ c ∷ d ∷ f ∷ g ∷ i ∷ j ∷ k ∷ es) t x e h = absurd (omega arith)
+  pub sequencer : Called reading (table m) (afterFor m) event stateOf extra
+  sequencer = record { rises = rises (λ e. e); one = λ es t x c h. one es t x c }
+
+  -- Done is none of the table's steps
+  pub others : Each (λ k. isDone k ≡ false) (stepsFor m)
+  others = (refl, (refl, (refl, (refl, (refl, (refl, (refl, go (hasPowerMode m))))))))
+    where
+      go : (b : Bool) → Each (λ k. isDone k ≡ false) (cond b (WaitPowerMode ∷ []) [])
+      go true = (refl, tt)
+      go false = tt

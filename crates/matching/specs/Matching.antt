@@ -1,9 +1,9 @@
 -- Matching a table against a run of events, in order, and the earliest matching. An event is anything with a clock reading, `at`.
--- Positions of a run and of a table are numbered from 0. Definitions only.
+-- Positions of a run and of a list are numbered from 0. Definitions only.
 -- Assumes nothing.
 use mathlib.Core.Path.{_≡_}
 use mathlib.Core.Bool.{Bool, true, false}
-use mathlib.Core.List.{List, [], _∷_}
+use mathlib.Core.List.{List}
 use Prim.Native.Nat.{ℕ, zero, suc, _≤_, _<_}
 use lib.ListN.{length, getD}
 
@@ -19,28 +19,14 @@ Table E = List (Entry E)
 abbrev pub never : {E : Type 0} → Entry E
 never t e = false
 
--- A later tick before never helps: what passes with the tick before at t′ passes with it at any earlier t.
-abbrev pub Antitone : {E : Type 0} → Entry E → Type 0
-Antitone {E} q = (t t′ : ℕ) (e : E) → t ≤ t′ → q t′ e ≡ true → q t e ≡ true
-
--- P holds of each element.
-abbrev pub Each : {A : Type 0} → (A → Type 0) → List A → Type 0
-Each P [] = Unit {0}
-Each P (x ∷ xs) = P x × Each P xs
-
 module _ {E : Type 0} (at : E → ℕ) where
-  -- The readings of the run never fall, from t on.
-  pub data Rising : ℕ → List E → Type 0 where
-    end : {t : ℕ} → Rising t []
-    then : {t : ℕ} {e : E} {r : List E} → t ≤ at e → Rising (at e) r → Rising t (e ∷ r)
-
   -- The reading at the tick before the k-th, the ticks being at the positions ps of the run r: 0 before the first.
   -- (d is what `getD` finds past the end of the run: nothing here looks there.)
   abbrev pub before : E → List E → List ℕ → ℕ → ℕ
   before d r ps zero = 0
   before d r ps (suc k) = at (getD r (getD ps k 0) d)
 
-  -- 01: a ticking of the table T over the run r, at the positions (01: places) ps.
+  -- A matching (01: a ticking) of the table T over the run r, at the positions (01: places) ps.
   pub record Matching (d : E) (T : Table E) (r : List E) (ps : List ℕ) : Type 0 where
     -- a position for each entry
     pub one : length ps ≡ length T
@@ -51,7 +37,7 @@ module _ {E : Type 0} (at : E → ℕ) where
     -- whose event ticks the entry, given the reading at the position before
     pub passes : (k : ℕ) → k < length T → getD T k never (before d r ps k) (getD r (getD ps k 0) d) ≡ true
 
-  -- 01: the earliest ticking: a matching that no matching is ahead of, anywhere.
+  -- The earliest matching: one that no matching is ahead of, anywhere.
   pub record Earliest (d : E) (T : Table E) (r : List E) (ps : List ℕ) : Type 0 where
     pub matching : Matching d T r ps
     pub least : (qs : List ℕ) → Matching d T r qs → (k : ℕ) → getD ps k 0 ≤ getD qs k 0

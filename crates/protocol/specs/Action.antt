@@ -1,4 +1,4 @@
--- One send, or none (01: "The fields of an absent record or send are 0 or false, an enum field its first case"). Definitions only.
+-- One send, or none (01: "What must change shape"): of an absent one each field is 0, false or its type's first case. Definitions only.
 -- Assumes nothing.
 use mathlib.Core.Bool.{true, false}
 use lib.ListN.{replicate}

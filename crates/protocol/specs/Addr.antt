@@ -1,4 +1,4 @@
--- The bytes of the bus addresses (01: "Devices: App 0x10, Pi 0x12, Avr 0x30, Dsp 0x40"). Definitions only.
+-- The bytes of the devices on the unit's bus. Definitions only.
 -- Assumes nothing.
 use Prim.Native.Nat.{ℕ}
 use Rattle.protocol.specs.declared.addr.BusAddr.{BusAddr}

@@ -2,15 +2,20 @@
 -- Assumes nothing.
 use mathlib.Core.Bool.{false}
 use lib.IntN.{ℤ}
+use Rattle.protocol.specs.declared.addr.BusAddr.{BusAddr}
 use Rattle.protocol.specs.declared.status.ConfigAck.{ConfigAck}
+use Rattle.protocol.specs.declared.status.OptionNack.{OptionNack}
 use Rattle.protocol.specs.declared.status.DspStatus.{DspStatus}
 use Rattle.protocol.specs.declared.handshake.DspQueryResp.{DspQueryResp}
 use Rattle.protocol.specs.declared.Message.{Message}
 use Rattle.protocol.specs.declared.Message.the-variants as Msg
 
--- 01: "The fields of an absent record or send are 0 or false, an enum field its first case"
+-- of an absent record each field is 0, false or its type's first case
 abbrev pub noAck : ConfigAck
 noAck = record { «bus_addr» = 0; «acked_cmd» = 0 }
+
+abbrev pub noNack : OptionNack
+noNack = record { some = false; src = BusAddr.App; «type_id» = 0; nack = noAck }
 
 abbrev pub noQueryResp : DspQueryResp
 noQueryResp = record { version = 0; «dsp_type» = 0; pcb = 0 }

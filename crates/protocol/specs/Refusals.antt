@@ -43,7 +43,7 @@ pub record Applies : Type 0 where
   pub number : ℕ
   pub holds : Bool
 
--- 01: "The lowest number that applies is given, and none where none applies." The list has the numbers in rising order; 0 is none.
+-- the number that is given: the first that applies, which is the lowest, since the lists rise (proofs/Numbers.antt); 0 where none does
 abbrev pub lowest : List Applies → ℕ
 lowest [] = 0
 lowest (a ∷ l) = cond (a .holds) (a .number) (lowest l)

@@ -1,4 +1,4 @@
--- What is stored of the bytes s (01: "bytes and places past a stored length are 0"). Definitions only.
+-- What is stored of the bytes s: an array of 256 that is 0 past them, and their number. Definitions only.
 -- Assumes nothing.
 use Prim.Native.Nat.{ℕ, _-_, min}
 use mathlib.Core.List.{List, _++_}

@@ -1,9 +1,8 @@
 // Status and acknowledgement records (src/protocol/status.rs). `PiStatus`, `ModeAck` and `Text` hold nothing but bytes, or nothing.
 ghost use mathlib.Core.Path.{_≡_};
 ghost use Rattle.protocol.specs.Ack.{ackOf};
-
-// The app's bus address.
-const APP: u8 = 0x10;
+ghost use Rattle.protocol.specs.Carried.{noNack};
+use crate::addr::BusAddr;
 
 pub struct StatusPoll {
     pub pi_mode: bool,
@@ -58,8 +57,32 @@ impl ConfigAck {
         ensures { λ r. ⌜ r ≡ ackOf «type_id» ⌝ }
     {
         ConfigAck {
-            bus_addr: APP,
+            bus_addr: BusAddr::App.as_byte(),
             acked_cmd: type_id & 0x7F,
+        }
+    }
+}
+
+// A nack with the source and the type id of its envelope.
+pub struct OptionNack {
+    pub some: bool,
+    pub src: BusAddr,
+    pub type_id: u8,
+    pub nack: ConfigAck,
+}
+
+impl OptionNack {
+    pub fn none() -> OptionNack
+        ensures { λ r. ⌜ r ≡ noNack ⌝ }
+    {
+        OptionNack {
+            some: false,
+            src: BusAddr::App,
+            type_id: 0,
+            nack: ConfigAck {
+                bus_addr: 0,
+                acked_cmd: 0,
+            },
         }
     }
 }

@@ -66,6 +66,27 @@ fn complain(about: &[u8], what: &[u8]) {
     io::write_all(STDOUT_FILENO, what);
 }
 
+fn replay_input(with_state: bool) {
+    if !lists::replay(STDIN_FILENO, with_state) {
+        complain(b"standard input", b": can't be read\n");
+    }
+}
+
+// `file` is the number of its argument.
+fn replay_file(file: usize, with_state: bool) {
+    let mut path = io::buffer();
+    let n = os::arg(file, &mut path);
+    let fd = os::open_read(&path[..n]);
+    if fd < 0 {
+        complain(&path[..n], b": can't be opened\n");
+        return;
+    }
+    if !lists::replay(fd, with_state) {
+        complain(&path[..n], b": can't be read\n");
+    }
+    libc::close(fd);
+}
+
 fn main() {
     let task = read_task();
     if !task.valid {
@@ -73,20 +94,8 @@ fn main() {
         return;
     }
     if task.file == 0 {
-        if !lists::replay(STDIN_FILENO, task.with_state) {
-            complain(b"standard input", b": can't be read\n");
-        }
+        replay_input(task.with_state);
         return;
     }
-    let mut path = io::buffer();
-    let n = os::arg(task.file, &mut path);
-    let fd = os::open_read(&path[..n]);
-    if fd < 0 {
-        complain(&path[..n], b": can't be opened\n");
-        return;
-    }
-    if !lists::replay(fd, task.with_state) {
-        complain(&path[..n], b": can't be read\n");
-    }
-    libc::close(fd);
+    replay_file(task.file, task.with_state);
 }

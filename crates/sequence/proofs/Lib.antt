@@ -1,1 +1,4 @@
 pub mod Acceptance
+pub mod Standing
+pub mod Arms
+pub mod Events

@@ -1,37 +1,40 @@
--- Which feeds and checks of a sequence with a clock are refused (01: "When a call is declined"). Definitions only.
+-- Which feeds and checks are refused (01: "When a call is declined"), as lists of numbers with their tests. Definitions only.
 -- Assumes nothing.
 use Prim.Native.Nat.{ℕ}
 use mathlib.Core.Bool.{Bool, true, not, _&&_}
-use mathlib.Core.List.{List, [], _∷_}
+use mathlib.Core.List.{List, [], _∷_, _++_}
 use lib.Dec.{ltb}
-use Rattle.protocol.specs.Refusals.{Applies}
+use lib.ListN.{length}
+use Rattle.protocol.specs.declared.refusal.Outcome.{Outcome}
+use Rattle.protocol.specs.Refusals.{Applies, lowest, outcome}
 
 abbrev pub applies : ℕ → Bool → Applies
 applies n b = record { number = n; holds = b }
 
--- a check, last being the last accepted reading
+-- a feed of a sequence without a clock. 1: its text exceeds 256 bytes; 2: its payload does
+abbrev pub bytesRefusals : List ℕ → List ℕ → List Applies
+bytesRefusals text payload = applies 1 (ltb 256 (length text)) ∷ applies 2 (ltb 256 (length payload)) ∷ []
+
+-- a check, last being the last accepted reading. 3: the reading is above 18,446,744,071,709,551,615 ns; 11: it is below the last
 abbrev pub checkRefusals : ℕ → ℕ → List Applies
-checkRefusals last reading =
-    -- 3: a clock reading above 18,446,744,071,709,551,615 ns
-    applies 3 (ltb 18_446_744_071_709_551_615 reading) ∷
-    -- 11: a reading below the last accepted one
-    applies 11 (ltb reading last) ∷
-    []
+checkRefusals last reading = applies 3 (ltb 18_446_744_071_709_551_615 reading) ∷ applies 11 (ltb reading last) ∷ []
 
--- a feed, with the lengths of its text and its payload
-abbrev pub feedRefusals : ℕ → ℕ → ℕ → ℕ → List Applies
-feedRefusals text payload last reading =
-    -- 1: a feed whose text exceeds 256 bytes
-    applies 1 (ltb 256 text) ∷
-    -- 2: the same for its payload
-    applies 2 (ltb 256 payload) ∷
-    checkRefusals last reading
-
--- 01: "accepted when none of 1, 2, 3 and 11 applies to it"
-abbrev pub none : List Applies → Bool
-none [] = true
-none (a ∷ l) = not (a .holds) && none l
+-- a feed of a sequence with a clock
+abbrev pub feedRefusals : List ℕ → List ℕ → ℕ → ℕ → List Applies
+feedRefusals text payload last reading = bytesRefusals text payload ++ checkRefusals last reading
 
 -- a result asked for. 12: before Done
 abbrev pub resultRefusals : Bool → List Applies
 resultRefusals done = applies 12 (not done) ∷ []
+
+-- the outcome of a feed, of a check: the lowest number that applies, or accepted
+abbrev pub feedOutcome : List ℕ → List ℕ → ℕ → ℕ → Outcome
+feedOutcome text payload last reading = outcome (lowest (feedRefusals text payload last reading))
+
+abbrev pub checkOutcome : ℕ → ℕ → Outcome
+checkOutcome last reading = outcome (lowest (checkRefusals last reading))
+
+-- accepted: no number applies
+abbrev pub none : List Applies → Bool
+none [] = true
+none (a ∷ l) = not (a .holds) && none l

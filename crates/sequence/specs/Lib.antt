@@ -1,2 +1,4 @@
-pub mod Accepted
 pub mod Events
+pub mod Accepted
+pub mod Calls
+pub mod Rows

@@ -1,7 +1,9 @@
-// What the sequences have in common: which calls are accepted, and a deadline.
+// What the sequences have in common: which calls are accepted, and deadlines.
 ghost use mathlib.Core.Path.{_≡_};
 ghost use Rattle.protocol.specs.Refusals.{outcome, lowest};
 ghost use Rattle.sequence.specs.Accepted.{feedRefusals, checkRefusals};
+ghost use Rattle.sequence.specs.Rows.{noDeadline, deadlineAt};
+ghost use denote.Ref.{now as held};
 use protocol::refusal::Outcome;
 use protocol::refusal::Refusal;
 
@@ -11,19 +13,45 @@ const MAX_LEN: usize = 256;
 // The largest clock reading, in nanoseconds: any wait added to it fits in 64 bits.
 const MAX_READING: u64 = 18_446_744_071_709_551_615;
 
+const MAX_INSTANT: u64 = 18_446_744_073_709_551_615;
+
 pub struct OptionInstant {
     pub some: bool,
     pub value: u64,
 }
 
+impl OptionInstant {
+    pub fn none() -> OptionInstant
+        ensures { λ r. ⌜ r ≡ noDeadline ⌝ }
+    {
+        OptionInstant {
+            some: false,
+            value: 0,
+        }
+    }
+
+    // `wait` nanoseconds after `now`; none where that doesn't fit.
+    pub fn after(now: u64, wait: u64) -> OptionInstant
+        ensures { λ r. ⌜ r ≡ deadlineAt now wait ⌝ }
+    {
+        if MAX_INSTANT - wait < now {
+            return OptionInstant::none();
+        }
+        OptionInstant {
+            some: true,
+            value: now + wait,
+        }
+    }
+}
+
 // Whether a feed is accepted, `last` being the last accepted reading.
-pub fn accept_feed(text_len: usize, payload_len: usize, last: u64, now: u64) -> Outcome
-    ensures { λ r. ⌜ r ≡ outcome (lowest (feedRefusals «text_len» «payload_len» last now)) ⌝ }
+pub fn accept_feed(text: &[u8], payload: &[u8], last: u64, now: u64) -> Outcome
+    ensures { λ r. ⌜ r ≡ outcome (lowest (feedRefusals (held (text .entry)) (held (payload .entry)) last now)) ⌝ }
 {
-    if MAX_LEN < text_len {
+    if MAX_LEN < text.len() {
         return Outcome::Refused(Refusal::TextTooLong);
     }
-    if MAX_LEN < payload_len {
+    if MAX_LEN < payload.len() {
         return Outcome::Refused(Refusal::PayloadTooLong);
     }
     accept_check(last, now)

@@ -9,7 +9,7 @@ returns : tie.Need-returns
 returns c = rw (lt-ltb 256 _ (c .if1 .taken))
 
 returns-2 : tie.Need-returns-2
-returns-2 c = rw (le-ltb 256 _ (c .before .if1 .left), lt-ltb 256 (c .before .before .args .payload-len) (c .if2 .taken))
+returns-2 c = rw (le-ltb 256 _ (c .before .if1 .left), lt-ltb 256 _ (c .if2 .taken))
 
 accept-check-requires : tie.Need-accept-check-requires
 accept-check-requires c κs = search needs

@@ -1,17 +1,16 @@
 -- `check_timeout` meets its contract.
 -- Assumes nothing.
-use Prim.Native.Nat.{ℕ}
-use mathlib.Core.Path.{_≡_, sym}
+use mathlib.Core.Path.{sym, ap, _∙_}
+use Rattle.sequence.proofs.Arms.{judged-accepted, judged-refused}
+use Rattle.device.specs.Model.{modelIn}
+use Rattle.sequence.specs.Accepted.{checkOutcome}
+use Rattle.sequence.specs.Events.{checked}
+use Rattle.dsp_steps.specs.declared.DspMoved.{DspMoved}
+use Rattle.dsp_steps.specs.Answers as steps
+use Rattle.dsp.specs.Answers.{accepted, refused}
 use borrow.Author.Needs.{needs}
-use Rattle.protocol.specs.declared.refusal.Outcome.{Outcome}
-use Rattle.dsp.specs.Answers.{checkOutcome}
-use Rattle.dsp.specs.declared.DspSequencer.{DspSequencer}
 use Rattle.dsp.proofs.DspSequencer.check_timeout.Statement.{statement}
 use Rattle.dsp.proofs.DspSequencer.check_timeout.Tie as tie
-
--- what the contract asks of the readings is what `accept_check` answered
-answered : (s : DspSequencer) (now : ℕ) {o : Outcome} → o ≡ checkOutcome s now → checkOutcome s now ≡ o
-answered s now e = sym e
 
 accept-check-requires : tie.Need-accept-check-requires
 accept-check-requires c κs = search needs
@@ -19,8 +18,11 @@ accept-check-requires c κs = search needs
 enum-told : tie.Need-enum-told
 enum-told c = search needs
 
-check-at-requires : tie.Need-check-at-requires
-check-at-requires c κs = search needs
+check-requires : tie.Need-check-requires
+check-requires c κs = search needs
+
+accepted-requires : tie.Need-accepted-requires
+accepted-requires c κs = search needs
 
 enum-known-outcome : tie.Need-enum-known-outcome
 enum-known-outcome c = search needs
@@ -29,10 +31,17 @@ refuse-requires : tie.Need-refuse-requires
 refuse-requires c κs = search needs
 
 returns : tie.Need-returns
-returns c = rw (answered (c .before .before .before .before .args .self) (c .before .before .before .before .args .now) (c .before .before .before .accept-check .ensures), c .before .enum-told .given .1) (c .check-at .ensures)
+returns c = let s = c .before .before .before .before .before .before .args .self in
+    let t = c .before .before .before .before .before .before .args .now in
+    let o = sym (c .before .before .before .before .before .accept-check .ensures) ∙ c .before .before .before .enum-told .given .1 in
+    c .accepted .ensures ∙ ap (λ (w : DspMoved). accepted w t) (c .before .check .ensures)
+    ∙ judged-accepted (checkOutcome (s .last) t) (accepted (steps.advance (modelIn (s .state .replies .«dev_info»)) (s .state) (checked t)) t) (refused s) o
 
 returns-2 : tie.Need-returns-2
-returns-2 c = rw (answered (c .before .before .before .before .before .args .self) (c .before .before .before .before .before .args .now) (c .before .before .before .before .accept-check .ensures), c .before .before .outcome .given .1) (c .refuse .ensures)
+returns-2 c = let s = c .before .before .before .before .before .args .self in
+    let t = c .before .before .before .before .before .args .now in
+    let o = sym (c .before .before .before .before .accept-check .ensures) ∙ c .before .before .outcome .given .1 in
+    c .refuse .ensures ∙ judged-refused (checkOutcome (s .last) t) (accepted (steps.advance (modelIn (s .state .replies .«dev_info»)) (s .state) (checked t)) t) (refused s) _ o
 
 pub check-timeout-spec : {M : Type 1} → statement M
 check-timeout-spec =
@@ -40,7 +49,8 @@ check-timeout-spec =
     (tie.spec
     accept-check-requires
     enum-told
-    check-at-requires
+    check-requires
+    accepted-requires
     enum-known-outcome
     refuse-requires
     returns

@@ -1,14 +1,18 @@
 -- `feed` meets its contract.
 -- Assumes nothing.
-use Rattle.sequence.proofs.Acceptance.{accepted, feed-accepted, feed-fits}
-use Rattle.sequence.specs.Events.{Envelope, fed}
-use denote.Ref.{now}
-use lib.ListN.{length}
-use Rattle.dsp.proofs.Rows.{idles, foreign}
-use Rattle.dsp.specs.Answers.{count, modelIn, withLast}
-use Rattle.protocol.proofs.Arms.{elsewhere}
-use Rattle.protocol.specs.declared.addr.BusAddr.{BusAddr}
 use mathlib.Core.Path.{sym, ap, _∙_}
+use denote.Ref.{now}
+use Rattle.protocol.specs.declared.addr.BusAddr.{BusAddr}
+use Rattle.protocol.proofs.Arms.{elsewhere}
+use Rattle.device.specs.Model.{modelIn}
+use Rattle.sequence.specs.Accepted.{feedOutcome}
+use Rattle.sequence.specs.Events.{Envelope, fed}
+use Rattle.sequence.proofs.Arms.{judged-accepted, judged-refused}
+use Rattle.dsp_steps.specs.declared.DspMoved.{DspMoved}
+use Rattle.dsp_steps.specs.Table.{row, next}
+use Rattle.dsp_steps.specs.Answers as steps
+use Rattle.dsp_steps.proofs.Rows.{idles, foreign}
+use Rattle.dsp.specs.Answers.{accepted, refused}
 use borrow.Author.Needs.{needs}
 use Rattle.dsp.proofs.DspSequencer.feed.Statement.{statement}
 use Rattle.dsp.proofs.DspSequencer.feed.Tie as tie
@@ -22,15 +26,14 @@ enum-told c = search needs
 enum-told-2 : tie.Need-enum-told-2
 enum-told-2 c = search needs
 
-feed-dsp-requires : tie.Need-feed-dsp-requires
-feed-dsp-requires c κs = let a = c .before .before .before .before .before .before .before .args in
-    let x = length (now (a .text)) in
-    let y = length (now (a .payload)) in
-    let ok = ap accepted (sym (c .before .before .before .before .accept-feed .ensures) ∙ c .before .before .enum-told .given .1) in
-    feed-fits x y (a .self .last) (a .now) (sym (feed-accepted x y (a .self .last) (a .now)) ∙ ok) .time .small
+feed-requires : tie.Need-feed-requires
+feed-requires c κs = search needs
 
-idle-requires : tie.Need-idle-requires
-idle-requires c κs = search needs
+accepted-requires : tie.Need-accepted-requires
+accepted-requires c κs = search needs
+
+none-requires : tie.Need-none-requires
+none-requires c κs = search needs
 
 enum-known-outcome : tie.Need-enum-known-outcome
 enum-known-outcome c = search needs
@@ -39,19 +42,41 @@ refuse-requires : tie.Need-refuse-requires
 refuse-requires c κs = search needs
 
 returns : tie.Need-returns
-returns c = rw (← c .before .before .before .before .before .accept-feed .ensures, c .before .before .before .enum-told .given .1, c .before .enum-told2 .given .1) (c .feed-dsp .ensures)
+returns c = let a = c .before .before .before .before .before .before .before .before .before .before .args in
+    let s = a .self in
+    let t = a .now in
+    let e : BusAddr → Envelope = λ b.
+    record { src = b; type-id = a .type-id; message = a .message; params = a .params; text = now (a .text); payload = now (a .payload) }
+    in
+    let o = sym (c .before .before .before .before .before .before .before .accept-feed .ensures) ∙ c .before .before .before .before .before .enum-told .given .1 in
+    let from = ap (λ (b : BusAddr). steps.advance (modelIn (s .state .replies .«dev_info»)) (s .state) (fed (e b) t)) (sym (c .before .before .before .enum-told2 .given .1)) in
+    c .accepted .ensures ∙ ap (λ (w : DspMoved). accepted w t) (c .before .feed .ensures ∙ from)
+    ∙ judged-accepted (feedOutcome (now (a .text)) (now (a .payload)) (s .last) t) (accepted (steps.advance (modelIn (s .state .replies .«dev_info»)) (s .state) (fed (e (a .src)) t)) t) (refused s) o
 
 returns-2 : tie.Need-returns-2
 returns-2 c = let a = c .before .before .before .before .before .before .before .args in
-    let e : Envelope =
-    record { src = a .src; type-id = a .type-id; message = a .message; params = a .params; text = now (a .text); payload = now (a .payload) }
+    let s = a .self in
+    let t = a .now in
+    let e : BusAddr → Envelope = λ b.
+    record { src = b; type-id = a .type-id; message = a .message; params = a .params; text = now (a .text); payload = now (a .payload) }
     in
-    let none = foreign (a .self .step) e (elsewhere BusAddr.Dsp (a .src) (c .before .match2 .keys2)) in
-    rw (← c .before .before .before .before .accept-feed .ensures, c .before .before .enum-told .given .1)
-    (c .idle .ensures ∙ sym (idles (modelIn (a .self)) (count (a .self .step)) (withLast (a .self) (a .now)) (fed e (a .now)) none))
+    let m = modelIn (s .state .replies .«dev_info») in
+    let k = s .state .step in
+    let o = sym (c .before .before .before .before .accept-feed .ensures) ∙ c .before .before .enum-told .given .1 in
+    let none = foreign m k (e (a .src)) (elsewhere BusAddr.Dsp (a .src) (c .before .match2 .keys2)) in
+    let still = ap (λ (w : DspMoved). accepted w t) (idles (row m k) (next m k) (row m (next m k)) (s .state) (fed (e (a .src)) t) none) in
+    rw (c .none .ensures)
+    (still ∙ judged-accepted (feedOutcome (now (a .text)) (now (a .payload)) (s .last) t) (accepted (steps.advance m (s .state) (fed (e (a .src)) t)) t) (refused s) o)
 
 returns-3 : tie.Need-returns-3
-returns-3 c = rw (← c .before .before .before .before .accept-feed .ensures, c .before .before .outcome .given .1) (c .refuse .ensures)
+returns-3 c = let a = c .before .before .before .before .before .before .before .args in
+    let s = a .self in
+    let t = a .now in
+    let e : BusAddr → Envelope = λ b.
+    record { src = b; type-id = a .type-id; message = a .message; params = a .params; text = now (a .text); payload = now (a .payload) }
+    in
+    let o = sym (c .before .before .before .before .accept-feed .ensures) ∙ c .before .before .outcome .given .1 in
+    c .refuse .ensures ∙ judged-refused (feedOutcome (now (a .text)) (now (a .payload)) (s .last) t) (accepted (steps.advance (modelIn (s .state .replies .«dev_info»)) (s .state) (fed (e (a .src)) t)) t) (refused s) _ o
 
 pub feed-spec : {M : Type 1} → statement M
 feed-spec =
@@ -60,8 +85,9 @@ feed-spec =
     accept-feed-requires
     enum-told
     enum-told-2
-    feed-dsp-requires
-    idle-requires
+    feed-requires
+    accepted-requires
+    none-requires
     enum-known-outcome
     refuse-requires
     returns

@@ -1,15 +1,30 @@
 -- `into_result` meets its contract.
 -- Assumes nothing.
+use mathlib.Core.Path.{_≡_, refl, ap}
+use mathlib.Core.Bool.{false}
+use mathlib.Core.List.{List, [], _∷_}
 use Prim.Native.Nat.{ℕ}
-use mathlib.Core.List.{List}
-use Rattle.dsp.proofs.Rows.{counted}
-use Rattle.dsp.specs.Answers.{count}
-use Rattle.protocol.proofs.Arms.{other-key}
-use mathlib.Core.List.{[], _∷_}
-use mathlib.Core.Path.{ap}
+use types.Run.{OneOf, miss}
+use denote.Enum.Declared as Declared
+use Rattle.dsp_steps.specs.declared.DspStep.{DspStep}
+use Rattle.dsp_steps.specs.declared.DspStep.the-variants.{WaitStatus, WaitDspQuery, WaitDevInfo, WaitProdInfo0, WaitProdInfo1, WaitProdInfo2, WaitConfig, WaitPowerMode, Done}
+use Rattle.dsp_steps.proofs.DspStep as step
+use Rattle.dsp.specs.Answers.{isDone}
 use borrow.Author.Needs.{needs}
 use Rattle.dsp.proofs.DspSequencer.into_result.Statement.{statement}
 use Rattle.dsp.proofs.DspSequencer.into_result.Tie as tie
+
+-- every step but the last
+not-done : (k : DspStep) → OneOf (0 ∷ 1 ∷ 2 ∷ 3 ∷ 4 ∷ 5 ∷ 6 ∷ 7 ∷ []) (Declared.tagOf step.the-type k) → isDone k ≡ false
+not-done WaitStatus h = refl
+not-done WaitDspQuery h = refl
+not-done WaitDevInfo h = refl
+not-done WaitProdInfo0 h = refl
+not-done WaitProdInfo1 h = refl
+not-done WaitProdInfo2 h = refl
+not-done WaitConfig h = refl
+not-done WaitPowerMode h = refl
+not-done Done h = absurd (miss (0 ∷ 1 ∷ 2 ∷ 3 ∷ 4 ∷ 5 ∷ 6 ∷ 7 ∷ []) 8 tt h)
 
 enum-told : tie.Need-enum-told
 enum-told c = search needs
@@ -17,15 +32,18 @@ enum-told c = search needs
 sync-requires : tie.Need-sync-requires
 sync-requires c κs = search needs
 
-none-requires : tie.Need-none-requires
-none-requires c κs = search needs
+new-requires : tie.Need-new-requires
+new-requires c κs = search needs
+
+sync-requires-2 : tie.Need-sync-requires-2
+sync-requires-2 c κs = search needs
 
 returns : tie.Need-returns
-returns c = rw (ap count (c .before .enum-told .given .1), c .sync .ensures)
+returns c = rw (ap isDone (c .before .enum-told .given .1), c .sync .ensures)
 
 returns-2 : tie.Need-returns-2
-returns-2 c = let keys : List ℕ = 0 ∷ 1 ∷ 2 ∷ 3 ∷ 4 ∷ 5 ∷ 6 ∷ 7 ∷ [] in
-    rw (c .none .ensures, ← counted (c .before .before .args .self .step), other-key keys _ 8 (c .before .match .keys2) tt)
+returns-2 c = rw (c .sync2 .ensures, c .before .new .ensures, not-done (c .before .before .before .before .args .self .state .step) (c .before .before .match .keys2))
 
 pub into-result-spec : {M : Type 1} → statement M
-into-result-spec = tie.close (tie.spec enum-told sync-requires none-requires returns returns-2)
+into-result-spec =
+    tie.close (tie.spec enum-told sync-requires new-requires sync-requires-2 returns returns-2)

@@ -4,11 +4,11 @@ use borrow.Author.Needs.{needs}
 use Rattle.dsp.proofs.DspSequencer.take_refused.Statement.{statement}
 use Rattle.dsp.proofs.DspSequencer.take_refused.Tie as tie
 
-no-nack-requires : tie.Need-no-nack-requires
-no-nack-requires c κs = search needs
+none-requires : tie.Need-none-requires
+none-requires c κs = search needs
 
 returns : tie.Need-returns
-returns c = rw (← c .no-nack .ensures)
+returns c = rw (c .none .ensures)
 
 pub take-refused-spec : {M : Type 1} → statement M
-take-refused-spec = tie.close (tie.spec no-nack-requires returns)
+take-refused-spec = tie.close (tie.spec none-requires returns)

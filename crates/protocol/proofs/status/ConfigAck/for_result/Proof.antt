@@ -1,11 +1,15 @@
 -- `ConfigAck::for_result` meets its contract: to clear the top bit of a byte is to take its remainder by 128.
 -- Assumes nothing.
+use borrow.Author.Needs.{needs}
 use lib.Bits.{and-mask}
 use Rattle.protocol.proofs.status.ConfigAck.for_result.Statement.{statement}
 use Rattle.protocol.proofs.status.ConfigAck.for_result.Tie as tie
 
+as-byte-requires : tie.Need-as-byte-requires
+as-byte-requires c κs = search needs
+
 returns : tie.Need-returns
-returns c = rw (← and-mask (c .args .type-id) 7)
+returns c = rw (← and-mask (c .before .args .type-id) 7, c .as-byte .ensures)
 
 pub for-result-spec : {M : Type 1} → statement M
-for-result-spec = tie.close (tie.spec returns)
+for-result-spec = tie.close (tie.spec as-byte-requires returns)

@@ -1,0 +1,14 @@
+-- `device_calls::next::next` is safe and ends. The measure is the number of lines that are left. Assumes nothing.
+use borrow.Author.Needs.{needs}
+use Rattle.device_calls.proofs.next.next.Statement.{statement}
+use Rattle.device_calls.proofs.next.next.Tie as tie
+
+abbrev Inv-loop : tie.InvT-loop
+Inv-loop calls input₀ line₀ values₀ bytes₀ out₀ turn₀ turns₀ input line values bytes out turn turns = Unit {0}
+
+abbrev μ-loop : tie.MeasureT-loop
+μ-loop calls input₀ line₀ values₀ bytes₀ out₀ turn₀ turns₀ input line values bytes out turn turns = turns
+
+pub next-spec : {M : Type 1} → statement M
+next-spec =
+    tie.close (tie.spec Inv-loop μ-loop (λ c κs. search needs) (λ c. search needs) (λ c κs. search needs) (λ c κs. search needs) (λ c κs. search needs) (λ c κs. search needs) (λ c. search needs) (λ c κs. search needs) (λ c κs. search needs) (λ c. search needs) (λ c. search needs) (λ c. search needs) (λ c. search needs) (λ c. search needs))

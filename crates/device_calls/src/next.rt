@@ -1,0 +1,116 @@
+// The next call of a list that a sequence answers.
+use crate::answer;
+use crate::bad;
+use reading::bytes::BYTES;
+use reading::call::Call;
+use reading::call::Calls;
+use reading::call::is_comment;
+use reading::call::read_line;
+use streams::INPUT;
+use streams::LONGER;
+use streams::Stream;
+use words::kinds::VALUES;
+use words::part;
+use writing::write::OUT;
+
+// A call, whose answer goes to the end of the output, where its number stands already. `Call::None` is no call.
+pub struct Turn {
+    pub stream: Stream,
+    pub call: Call,
+}
+
+impl Turn {
+    pub fn without_call(stream: Stream) -> Turn {
+        Turn {
+            stream: stream,
+            call: Call::None,
+        }
+    }
+
+    // Whether the list is at its end.
+    pub fn ends(self) -> bool {
+        let call = self.call;
+        match call {
+            Call::None => true,
+            _ => false,
+        }
+    }
+
+    // Whether a sequence that runs has no more calls: another begins, or the list is at its end.
+    pub fn leaves(self) -> bool {
+        let call = self.call;
+        match call {
+            Call::None => true,
+            Call::Begin(_) => true,
+            _ => false,
+        }
+    }
+}
+
+// Answers a call that no sequence is needed for, and leaves any other.
+fn outside(stream: Stream, call: Call, bytes: &[u8], out: &mut [u8; OUT]) -> Turn {
+    match call {
+        Call::Device(other) => {
+            let end = answer(other, bytes, out, stream.out);
+            Turn::without_call(stream.answered(out, end))
+        }
+        _ => Turn {
+            stream: stream,
+            call: call,
+        },
+    }
+}
+
+// The call of a line, if a sequence answers it.
+fn call_of(
+    stream: Stream,
+    line: &[u8],
+    calls: Calls,
+    values: &mut [u64; VALUES],
+    bytes: &mut [u8; BYTES],
+    out: &mut [u8; OUT],
+) -> Turn {
+    if is_comment(line) {
+        return Turn::without_call(stream);
+    }
+    let numbered = stream.numbered(out);
+    let read = read_line(line, calls, values, bytes);
+    let c = read.c;
+    if c.bad() {
+        let end = bad::line(c, out, numbered.out);
+        return Turn::without_call(numbered.answered(out, end));
+    }
+    let call = read.call;
+    outside(numbered, call, bytes, out)
+}
+
+// The next call for a sequence that has these calls, none before the first sequence.
+// It is `Call::None` at the end of the list. Lines before it that need no sequence are answered.
+pub fn next(
+    start: Stream,
+    calls: Calls,
+    input: &mut [u8; INPUT],
+    line: &mut [u8; LONGER],
+    values: &mut [u64; VALUES],
+    bytes: &mut [u8; BYTES],
+    out: &mut [u8; OUT],
+) -> Turn {
+    let mut turn = Turn::without_call(start);
+    let mut turns = u64::MAX;
+    while 0 < turns && turn.ends() {
+        let stream = turn.stream.next_line(input, line, out);
+        if !stream.has_line() {
+            return Turn::without_call(stream);
+        }
+        turn = call_of(
+            stream,
+            part(line, 0, stream.line),
+            calls,
+            values,
+            bytes,
+            out,
+        );
+        turns -= 1;
+    }
+    turn
+}

@@ -1,0 +1,198 @@
+// The calls of a DSP start-up, and what they answer.
+mod stored;
+
+use device_calls::next::Turn;
+use device_calls::next::next;
+use dsp::DspFed;
+use dsp::DspSequencer;
+use dsp_steps::DspStep;
+use protocol::Action;
+use protocol::refusal::Outcome;
+use reading::bytes::BYTES;
+use reading::call::Call;
+use reading::call::Calls;
+use reading::call::Feed;
+use streams::INPUT;
+use streams::LONGER;
+use streams::Stream;
+use words::kinds::VALUES;
+use words::part;
+use writing::send;
+use writing::write;
+use writing::write::OUT;
+
+// The start-up after a call, and the end of the answer.
+struct Answered {
+    dsp: DspSequencer,
+    at: usize,
+}
+
+fn number_of(step: DspStep) -> usize {
+    match step {
+        DspStep::WaitStatus => 0,
+        DspStep::WaitDspQuery => 1,
+        DspStep::WaitDevInfo => 2,
+        DspStep::WaitProdInfo0 => 3,
+        DspStep::WaitProdInfo1 => 4,
+        DspStep::WaitProdInfo2 => 5,
+        DspStep::WaitConfig => 6,
+        DspStep::WaitPowerMode => 7,
+        DspStep::Done => 8,
+    }
+}
+
+fn name(out: &mut [u8; OUT], at: usize, step: DspStep) -> usize {
+    let names =
+        b"WaitStatus WaitDspQuery WaitDevInfo WaitProdInfo0 WaitProdInfo1 WaitProdInfo2 WaitConfig WaitPowerMode Done";
+    write::choice(out, at, number_of(step), names, b' ')
+}
+
+fn step_of(dsp: DspSequencer) -> DspStep {
+    let state = dsp.state;
+    state.step
+}
+
+// What is sent, and the step that is waited at.
+fn sent(out: &mut [u8; OUT], at: usize, action: Action, step: DspStep) -> usize {
+    let mut end = send::send(out, at, action);
+    end = write::text(out, end, b"; ");
+    name(out, end, step)
+}
+
+fn begin(out: &mut [u8; OUT], at: usize) -> Answered {
+    let started = DspSequencer::new();
+    let action = started.action;
+    let dsp = started.seq;
+    Answered {
+        dsp: dsp,
+        at: sent(out, at, action, step_of(dsp)),
+    }
+}
+
+fn outcome_and_sent(
+    out: &mut [u8; OUT],
+    at: usize,
+    outcome: Outcome,
+    action: Action,
+    step: DspStep,
+) -> usize {
+    let mut end = send::outcome(out, at, outcome);
+    end = write::text(out, end, b"; ");
+    sent(out, end, action, step)
+}
+
+fn fed(out: &mut [u8; OUT], at: usize, fed: DspFed) -> Answered {
+    let outcome = fed.outcome;
+    let action = fed.action;
+    let dsp = fed.seq;
+    Answered {
+        dsp: dsp,
+        at: outcome_and_sent(out, at, outcome, action, step_of(dsp)),
+    }
+}
+
+fn feed(
+    dsp: DspSequencer,
+    feed: Feed,
+    values: &[u64; VALUES],
+    bytes: &[u8],
+    out: &mut [u8; OUT],
+    at: usize,
+) -> Answered {
+    let src = feed.src;
+    let message = messages::message(feed.kind, values);
+    let numbers = messages::params(feed.kind, values);
+    let text = part(bytes, 0, feed.text);
+    let payload = part(bytes, feed.text, feed.payload);
+    fed(
+        out,
+        at,
+        dsp.feed(src, feed.type_id, message, numbers, text, payload, feed.now),
+    )
+}
+
+fn check(dsp: DspSequencer, now: u64, out: &mut [u8; OUT], at: usize) -> Answered {
+    fed(out, at, dsp.check_timeout(now))
+}
+
+fn result(dsp: DspSequencer, out: &mut [u8; OUT], at: usize) -> usize {
+    let finished = dsp.into_result();
+    let outcome = finished.outcome;
+    let end = send::outcome(out, at, outcome);
+    if let Outcome::Refused(_) = outcome {
+        return end;
+    }
+    let sync = finished.sync;
+    stored::sync(out, end, sync)
+}
+
+fn take(dsp: DspSequencer, out: &mut [u8; OUT], at: usize) -> Answered {
+    let taken = dsp.take_refused();
+    let refused = taken.refused;
+    let next = taken.seq;
+    Answered {
+        dsp: next,
+        at: stored::taken(out, at, refused),
+    }
+}
+
+// A call of a start-up that has begun: `take`, where it is no other.
+fn call(
+    dsp: DspSequencer,
+    call: Call,
+    values: &[u64; VALUES],
+    bytes: &[u8],
+    out: &mut [u8; OUT],
+    at: usize,
+) -> Answered {
+    match call {
+        Call::Feed(envelope) => feed(dsp, envelope, values, bytes, out, at),
+        Call::Check(now) => check(dsp, now, out, at),
+        Call::Result => Answered {
+            dsp: dsp,
+            at: result(dsp, out, at),
+        },
+        _ => take(dsp, out, at),
+    }
+}
+
+// Ends an answer, with every stored field if they are asked for.
+fn end(dsp: DspSequencer, stream: Stream, out: &mut [u8; OUT], at: usize) -> Stream {
+    if stream.with_state {
+        let state = dsp.state;
+        let replies = state.replies;
+        let deadline = state.deadline;
+        let end = stored::state(out, at, dsp.last, replies, deadline);
+        return stream.answered(out, end);
+    }
+    stream.answered(out, at)
+}
+
+// A start-up from its beginning, whose number is written, to the beginning of the next sequence or the end of the list. The calls
+// are counted down, as reads are.
+pub fn run(
+    stream: Stream,
+    input: &mut [u8; INPUT],
+    line: &mut [u8; LONGER],
+    values: &mut [u64; VALUES],
+    bytes: &mut [u8; BYTES],
+    out: &mut [u8; OUT],
+) -> Turn {
+    let mut done = begin(out, stream.out);
+    let mut turn = Turn::without_call(stream);
+    let mut turns = u64::MAX;
+    loop {
+        let dsp = done.dsp;
+        let ended = end(dsp, turn.stream, out, done.at);
+        turn = next(ended, Calls::all(), input, line, values, bytes, out);
+        if turn.leaves() {
+            return turn;
+        }
+        let asked = turn.call;
+        done = call(dsp, asked, values, bytes, out, turn.stream.out);
+        if turns == 0 {
+            return turn;
+        }
+        turns -= 1;
+    }
+}

@@ -1,0 +1,83 @@
+-- `check` meets its contract.
+-- Assumes nothing.
+use mathlib.Core.Path.{_∙_}
+use Rattle.sequence.specs.Events.{checked}
+use Rattle.sequence.specs.Rows.{past}
+use Rattle.sequence.proofs.Arms.{unset, early, reached, waitless}
+use Rattle.device.specs.Model.{modelIn}
+use Rattle.dsp_steps.specs.declared.DspStep.{DspStep}
+use Rattle.dsp_steps.specs.Table.{entry2, entry3, entry8, row, next}
+use Rattle.dsp_steps.proofs.Rows.{at-step, idles, ticks, no-wait}
+use borrow.Author.Needs.{needs}
+use Rattle.dsp_steps.proofs.DspState.check.Statement.{statement}
+use Rattle.dsp_steps.proofs.DspState.check.Tie as tie
+
+idle-requires : tie.Need-idle-requires
+idle-requires c κs = search needs
+
+returns : tie.Need-returns
+returns c = let s = c .before .before .before .before .args .self in
+    let t = c .before .before .before .before .args .now in
+    let m = modelIn (s .replies .«dev_info») in
+    c .idle .ensures ∙ idles (row m (s .step)) (next m (s .step)) (row m (next m (s .step))) s (checked t) (unset (row m (s .step) .wait) (s .deadline) t (c .before .if1 .taken))
+
+idle-requires-2 : tie.Need-idle-requires-2
+idle-requires-2 c κs = search needs
+
+returns-2 : tie.Need-returns-2
+returns-2 c = let s = c .before .before .before .before .before .before .args .self in
+    let t = c .before .before .before .before .before .before .args .now in
+    let m = modelIn (s .replies .«dev_info») in
+    c .idle2 .ensures ∙ idles (row m (s .step)) (next m (s .step)) (row m (next m (s .step))) s (checked t) (early (row m (s .step) .wait) (s .deadline) t (c .before .if2 .taken))
+
+enum-told : tie.Need-enum-told
+enum-told c = search needs
+
+to-dev-info-requires : tie.Need-to-dev-info-requires
+to-dev-info-requires c κs = search needs
+
+enum-told-2 : tie.Need-enum-told-2
+enum-told-2 c = search needs
+
+done-requires : tie.Need-done-requires
+done-requires c κs = search needs
+
+idle-requires-3 : tie.Need-idle-requires-3
+idle-requires-3 c κs = search needs
+
+returns-3 : tie.Need-returns-3
+returns-3 c = let s = c .before .before .before .before .before .before .before .before .args .self in
+    let t = c .before .before .before .before .before .before .before .before .args .now in
+    let m = modelIn (s .replies .«dev_info») in
+    c .to-dev-info .ensures ∙ ticks entry2 DspStep.WaitDevInfo entry3 s (checked t) (reached (s .deadline) t (c .before .before .before .before .before .if1 .left) (c .before .before .before .if2 .left))
+    ∙ at-step m s (checked t) DspStep.WaitDspQuery (c .before .enum-told .given .1)
+
+returns-4 : tie.Need-returns-4
+returns-4 c = let s = c .before .before .before .before .before .before .before .before .before .args .self in
+    let t = c .before .before .before .before .before .before .before .before .before .args .now in
+    let m = modelIn (s .replies .«dev_info») in
+    c .done .ensures ∙ ticks entry8 DspStep.Done past s (checked t) (reached (s .deadline) t (c .before .before .before .before .before .before .if1 .left) (c .before .before .before .before .if2 .left))
+    ∙ at-step m s (checked t) DspStep.WaitPowerMode (c .before .before .enum-told2 .given .1)
+
+returns-5 : tie.Need-returns-5
+returns-5 c = let s = c .before .before .before .before .before .before .before .args .self in
+    let t = c .before .before .before .before .before .before .before .args .now in
+    let m = modelIn (s .replies .«dev_info») in
+    c .idle3 .ensures ∙ idles (row m (s .step)) (next m (s .step)) (row m (next m (s .step))) s (checked t) (waitless (row m (s .step) .wait) (s .deadline) t (no-wait m (s .step) (c .before .match .keys3)))
+
+pub check-spec : {M : Type 1} → statement M
+check-spec =
+    tie.close
+    (tie.spec
+    idle-requires
+    returns
+    idle-requires-2
+    returns-2
+    enum-told
+    to-dev-info-requires
+    enum-told-2
+    done-requires
+    idle-requires-3
+    returns-3
+    returns-4
+    returns-5)

@@ -1,0 +1,154 @@
+-- `feed` meets its contract.
+-- Assumes nothing.
+use mathlib.Core.Path.{_∙_, ap}
+use denote.Ref.{now}
+use Rattle.protocol.specs.declared.Action.{Action}
+use Rattle.sequence.specs.Rows.{past}
+use Rattle.device.specs.Model.{modelIn}
+use Rattle.dsp_steps.specs.declared.DspStep.{DspStep}
+use Rattle.dsp_steps.specs.Table.{prodInfo}
+use Rattle.dsp_steps.specs.Answers.{sent, armAt}
+use Rattle.dsp_steps.proofs.Rows.{at-step}
+use borrow.Author.Needs.{needs}
+use Rattle.dsp_steps.proofs.DspState.feed.Statement.{statement}
+use Rattle.dsp_steps.proofs.DspState.feed.Tie as tie
+
+enum-told : tie.Need-enum-told
+enum-told c = search needs
+
+wait-status-requires : tie.Need-wait-status-requires
+wait-status-requires c κs = search needs
+
+enum-told-2 : tie.Need-enum-told-2
+enum-told-2 c = search needs
+
+wait-dsp-query-requires : tie.Need-wait-dsp-query-requires
+wait-dsp-query-requires c κs = search needs
+
+enum-told-3 : tie.Need-enum-told-3
+enum-told-3 c = search needs
+
+wait-dev-info-requires : tie.Need-wait-dev-info-requires
+wait-dev-info-requires c κs = search needs
+
+enum-told-4 : tie.Need-enum-told-4
+enum-told-4 c = search needs
+
+prod-info-req-requires : tie.Need-prod-info-req-requires
+prod-info-req-requires c κs = search needs
+
+wait-prod-info-requires : tie.Need-wait-prod-info-requires
+wait-prod-info-requires c κs = search needs
+
+enum-told-5 : tie.Need-enum-told-5
+enum-told-5 c = search needs
+
+prod-info-req-requires-2 : tie.Need-prod-info-req-requires-2
+prod-info-req-requires-2 c κs = search needs
+
+wait-prod-info-requires-2 : tie.Need-wait-prod-info-requires-2
+wait-prod-info-requires-2 c κs = search needs
+
+enum-told-6 : tie.Need-enum-told-6
+enum-told-6 c = search needs
+
+send-requires : tie.Need-send-requires
+send-requires c κs = search needs
+
+wait-prod-info-requires-3 : tie.Need-wait-prod-info-requires-3
+wait-prod-info-requires-3 c κs = search needs
+
+enum-told-7 : tie.Need-enum-told-7
+enum-told-7 c = search needs
+
+wait-config-requires : tie.Need-wait-config-requires
+wait-config-requires c κs = search needs
+
+enum-told-8 : tie.Need-enum-told-8
+enum-told-8 c = search needs
+
+wait-power-mode-requires : tie.Need-wait-power-mode-requires
+wait-power-mode-requires c κs = search needs
+
+enum-told-9 : tie.Need-enum-told-9
+enum-told-9 c = search needs
+
+idle-requires : tie.Need-idle-requires
+idle-requires c κs = search needs
+
+returns : tie.Need-returns
+returns c = let a = c .before .before .before .before .before .args in
+    c .wait-status .ensures ∙ at-step (modelIn (a .self .replies .«dev_info»)) (a .self) (sent (a .type-id) (a .message) (a .params) (now (a .text)) (now (a .payload)) (a .now)) DspStep.WaitStatus (c .before .enum-told .given .1)
+
+returns-2 : tie.Need-returns-2
+returns-2 c = let a = c .before .before .before .before .before .args in
+    c .wait-dsp-query .ensures ∙ at-step (modelIn (a .self .replies .«dev_info»)) (a .self) (sent (a .type-id) (a .message) (a .params) (now (a .text)) (now (a .payload)) (a .now)) DspStep.WaitDspQuery (c .before .enum-told2 .given .1)
+
+returns-3 : tie.Need-returns-3
+returns-3 c = let a = c .before .before .before .before .before .args in
+    c .wait-dev-info .ensures ∙ at-step (modelIn (a .self .replies .«dev_info»)) (a .self) (sent (a .type-id) (a .message) (a .params) (now (a .text)) (now (a .payload)) (a .now)) DspStep.WaitDevInfo (c .before .enum-told3 .given .1)
+
+returns-4 : tie.Need-returns-4
+returns-4 c = let a = c .before .before .before .before .before .before .args in
+    let e = (sent (a .type-id) (a .message) (a .params) (now (a .text)) (now (a .payload)) (a .now)) in
+    c .wait-prod-info .ensures ∙ ap (λ (x : Action). armAt (prodInfo 0 x) DspStep.WaitProdInfo1 past (a .self) e) (c .before .prod-info-req .ensures)
+    ∙ at-step (modelIn (a .self .replies .«dev_info»)) (a .self) e DspStep.WaitProdInfo0 (c .before .before .enum-told4 .given .1)
+
+returns-5 : tie.Need-returns-5
+returns-5 c = let a = c .before .before .before .before .before .before .args in
+    let e = (sent (a .type-id) (a .message) (a .params) (now (a .text)) (now (a .payload)) (a .now)) in
+    c .wait-prod-info2 .ensures ∙ ap (λ (x : Action). armAt (prodInfo 1 x) DspStep.WaitProdInfo2 past (a .self) e) (c .before .prod-info-req2 .ensures)
+    ∙ at-step (modelIn (a .self .replies .«dev_info»)) (a .self) e DspStep.WaitProdInfo1 (c .before .before .enum-told5 .given .1)
+
+returns-6 : tie.Need-returns-6
+returns-6 c = let a = c .before .before .before .before .before .before .args in
+    let e = (sent (a .type-id) (a .message) (a .params) (now (a .text)) (now (a .payload)) (a .now)) in
+    c .wait-prod-info3 .ensures ∙ ap (λ (x : Action). armAt (prodInfo 2 x) DspStep.WaitConfig past (a .self) e) (c .before .send .ensures)
+    ∙ at-step (modelIn (a .self .replies .«dev_info»)) (a .self) e DspStep.WaitProdInfo2 (c .before .before .enum-told6 .given .1)
+
+returns-7 : tie.Need-returns-7
+returns-7 c = let a = c .before .before .before .before .before .args in
+    c .wait-config .ensures ∙ at-step (modelIn (a .self .replies .«dev_info»)) (a .self) (sent (a .type-id) (a .message) (a .params) (now (a .text)) (now (a .payload)) (a .now)) DspStep.WaitConfig (c .before .enum-told7 .given .1)
+
+returns-8 : tie.Need-returns-8
+returns-8 c = let a = c .before .before .before .before .before .args in
+    c .wait-power-mode .ensures ∙ at-step (modelIn (a .self .replies .«dev_info»)) (a .self) (sent (a .type-id) (a .message) (a .params) (now (a .text)) (now (a .payload)) (a .now)) DspStep.WaitPowerMode (c .before .enum-told8 .given .1)
+
+returns-9 : tie.Need-returns-9
+returns-9 c = let a = c .before .before .before .before .before .args in
+    c .idle .ensures ∙ at-step (modelIn (a .self .replies .«dev_info»)) (a .self) (sent (a .type-id) (a .message) (a .params) (now (a .text)) (now (a .payload)) (a .now)) DspStep.Done (c .before .enum-told9 .given .1)
+
+pub feed-spec : {M : Type 1} → statement M
+feed-spec =
+    tie.close
+    (tie.spec
+    enum-told
+    wait-status-requires
+    enum-told-2
+    wait-dsp-query-requires
+    enum-told-3
+    wait-dev-info-requires
+    enum-told-4
+    prod-info-req-requires
+    wait-prod-info-requires
+    enum-told-5
+    prod-info-req-requires-2
+    wait-prod-info-requires-2
+    enum-told-6
+    send-requires
+    wait-prod-info-requires-3
+    enum-told-7
+    wait-config-requires
+    enum-told-8
+    wait-power-mode-requires
+    enum-told-9
+    idle-requires
+    returns
+    returns-2
+    returns-3
+    returns-4
+    returns-5
+    returns-6
+    returns-7
+    returns-8
+    returns-9)

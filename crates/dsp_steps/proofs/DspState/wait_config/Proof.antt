@@ -1,0 +1,76 @@
+-- `wait_config` meets its contract.
+-- Assumes nothing.
+use mathlib.Core.Path.{_≡_, ap, sym, _∙_}
+use mathlib.Core.Bool.{Bool}
+use mathlib.Core.List.{[]}
+use Rattle.protocol.proofs.Arms.{other}
+use Rattle.device.specs.declared.model.DeviceModel.{DeviceModel}
+use Rattle.device.specs.Model.{modelIn, hasPowerMode}
+use Rattle.dsp_steps.specs.declared.DspStep.{DspStep}
+use Rattle.dsp_steps.specs.Table.{entry7, next, row}
+use Rattle.dsp_steps.specs.Answers.{sent}
+use Rattle.dsp_steps.proofs.Rows.{idles}
+use borrow.Author.Needs.{needs}
+use Rattle.dsp_steps.proofs.DspState.wait_config.Statement.{statement}
+use Rattle.dsp_steps.proofs.DspState.wait_config.Tie as tie
+
+-- what the code's two questions tell of the model
+power-mode-of : {m n : DeviceModel} {a b : Bool} → n ≡ m → a ≡ hasPowerMode n → a ≡ b → hasPowerMode m ≡ b
+power-mode-of p q r = ap hasPowerMode (sym p) ∙ sym q ∙ r
+
+enum-told : tie.Need-enum-told
+enum-told c = search needs
+
+from-stored-requires : tie.Need-from-stored-requires
+from-stored-requires c κs = search needs
+
+has-power-mode-requires : tie.Need-has-power-mode-requires
+has-power-mode-requires c κs = search needs
+
+after-requires : tie.Need-after-requires
+after-requires c κs = search needs
+
+power-mode-requires : tie.Need-power-mode-requires
+power-mode-requires c κs = search needs
+
+moved-requires : tie.Need-moved-requires
+moved-requires c κs = search needs
+
+returns : tie.Need-returns
+returns c = let on = power-mode-of (c .before .before .before .before .before .from-stored .ensures) (c .before .before .before .before .has-power-mode .ensures) (c .before .before .before .if1 .taken) in
+    c .moved .ensures ∙ rw (c .before .before .before .before .before .before .before .enum-told .given .1, on, c .before .power-mode .ensures, c .before .before .after .ensures)
+
+none-requires : tie.Need-none-requires
+none-requires c κs = search needs
+
+moved-requires-2 : tie.Need-moved-requires-2
+moved-requires-2 c κs = search needs
+
+returns-2 : tie.Need-returns-2
+returns-2 c = let off = power-mode-of (c .before .before .before .before .from-stored .ensures) (c .before .before .before .has-power-mode .ensures) (c .before .before .if1 .left) in
+    c .moved2 .ensures ∙ rw (c .before .before .before .before .before .before .enum-told .given .1, off, c .before .none .ensures)
+
+idle-requires : tie.Need-idle-requires
+idle-requires c κs = search needs
+
+returns-3 : tie.Need-returns-3
+returns-3 c = let a = c .before .before .args in
+    let m = modelIn (a .self .replies .«dev_info») in
+    c .idle .ensures ∙ idles (entry7 m) (next m DspStep.WaitConfig) (row m (next m DspStep.WaitConfig)) (a .self) (sent 0 (a .message) (a .params) [] [] (a .now)) (other 10 (a .message) tt (c .before .match .keys2))
+
+pub wait-config-spec : {M : Type 1} → statement M
+wait-config-spec =
+    tie.close
+    (tie.spec
+    enum-told
+    from-stored-requires
+    has-power-mode-requires
+    after-requires
+    power-mode-requires
+    moved-requires
+    returns
+    none-requires
+    moved-requires-2
+    returns-2
+    idle-requires
+    returns-3)

@@ -1,0 +1,55 @@
+-- `wait_prod_info` meets its contract.
+-- Assumes nothing.
+use mathlib.Core.Path.{_∙_}
+use mathlib.Core.List.{[]}
+use denote.Ref.{now}
+use Rattle.protocol.proofs.Arms.{other}
+use Rattle.sequence.specs.Rows.{past}
+use Rattle.dsp_steps.specs.Table.{prodInfo}
+use Rattle.dsp_steps.specs.Answers.{sent}
+use Rattle.dsp_steps.proofs.Rows.{idles, ticks, stores-prod-info}
+use borrow.Author.Needs.{needs}
+use Rattle.dsp_steps.proofs.DspState.wait_prod_info.Statement.{statement}
+use Rattle.dsp_steps.proofs.DspState.wait_prod_info.Tie as tie
+
+enum-told : tie.Need-enum-told
+enum-told c = search needs
+
+from-slice-requires : tie.Need-from-slice-requires
+from-slice-requires c κs = search needs
+
+mul-prod-info : tie.Need-mul-prod-info
+mul-prod-info c = search needs
+
+element-set-from-prod-info : tie.Need-element-set-from-prod-info
+element-set-from-prod-info c = search needs
+
+moved-requires : tie.Need-moved-requires
+moved-requires c κs = search needs
+
+returns : tie.Need-returns
+returns c = let a = c .before .before .before .before .before .before .args in
+    let e = sent 0 (a .message) [] (now (a .text)) [] (a .now) in
+    c .moved .ensures
+    ∙ rw (c .before .from-slice .ensures, ← stores-prod-info (a .i) e (a .self .replies) (c .before .before .before .before .before .before .pre))
+    (ticks (prodInfo (a .i) (a .action)) (a .step) past (a .self) e (rw (c .before .before .before .enum-told .given .1)))
+
+idle-requires : tie.Need-idle-requires
+idle-requires c κs = search needs
+
+returns-2 : tie.Need-returns-2
+returns-2 c = let a = c .before .before .before .args in
+    c .idle .ensures ∙ idles (prodInfo (a .i) (a .action)) (a .step) past (a .self) (sent 0 (a .message) [] (now (a .text)) [] (a .now)) (other 14 (a .message) tt (c .before .match .keys2))
+
+pub wait-prod-info-spec : {M : Type 1} → statement M
+wait-prod-info-spec =
+    tie.close
+    (tie.spec
+    enum-told
+    from-slice-requires
+    mul-prod-info
+    element-set-from-prod-info
+    moved-requires
+    returns
+    idle-requires
+    returns-2)

@@ -1,0 +1,480 @@
+// What a DSP start-up does with an accepted envelope or check, step by step (src/seq.rs, "Phase 1 — DspSequencer"). Its calls, with
+// their refusals and the result, are crate dsp's.
+ghost use mathlib.Core.Path.{_≡_};
+ghost use mathlib.Core.List.{[]};
+ghost use Prim.Native.Nat.{_<_, _+_};
+ghost use denote.Ref.{now as held};
+ghost use Rattle.protocol.specs.Action.{noAction, sendTo};
+ghost use Rattle.protocol.specs.declared.addr.BusAddr.{BusAddr};
+ghost use Rattle.protocol.specs.Carried.{noDspStatus};
+ghost use Rattle.protocol.specs.declared.Command.{Command};
+ghost use Rattle.protocol.specs.declared.Message.{Message};
+ghost use Rattle.device.specs.Model.{modelIn};
+ghost use Rattle.sequence.specs.Events.{checked};
+ghost use Rattle.sequence.specs.Rows.{idle, past, noDeadline};
+ghost use Rattle.dsp_steps.specs.declared.DspStep.{DspStep};
+ghost use Rattle.dsp_steps.specs.Stores.{statusReply, noHwInfo, noReplies, prodInfoReq, powerMode};
+ghost use Rattle.dsp_steps.specs.Table.{entry1, entry2, entry3, entry4, entry7, entry8, prodInfo, next, row};
+ghost use Rattle.dsp_steps.specs.Answers.{begun, view, made, answered, sent, armAt};
+use device::model::DeviceModel;
+use protocol::Action;
+use protocol::Command;
+use protocol::Message;
+use protocol::addr::BusAddr;
+use protocol::config::ConfigResp;
+use protocol::config::OptionConfigResp;
+use protocol::config::ParamData;
+use protocol::config::ParamValue;
+use protocol::handshake::DevInfoResp;
+use protocol::handshake::DspQueryResp;
+use protocol::handshake::OptionDevInfoResp;
+use protocol::handshake::ProdInfoReq;
+use protocol::handshake::ProdInfoResp;
+use protocol::status::ConfigAck;
+use protocol::status::DspStatus;
+use protocol::status::DspStatus80;
+use protocol::status::OptionNack;
+use protocol::stored::Stored;
+use sequence::OptionInstant;
+
+// How long a reply to the DSP query or the power-mode write is waited for, in nanoseconds.
+const DSP_QUERY_TIMEOUT: u64 = 2_000_000_000;
+
+// The type ids of the DSP query and the power-mode write without their top bit, as a reply names them.
+const DSP_QUERY: u8 = 0x48;
+
+const PARAM_VALUE: u8 = 0x3F;
+
+// The power mode (param 0x01 of the Xi's DSP), and its value Normal.
+const XI_DSP_POWER_MODE_ID: u8 = 0x01;
+
+const XI_DSP_POWER_MODE_NORMAL: i32 = 1;
+
+pub enum DspStep {
+    WaitStatus,
+    WaitDspQuery,
+    WaitDevInfo,
+    WaitProdInfo0,
+    WaitProdInfo1,
+    WaitProdInfo2,
+    WaitConfig,
+    // Xi only
+    WaitPowerMode,
+    Done,
+}
+
+// A status; `payload` is that of a V46.
+pub struct OptionDspStatus {
+    pub some: bool,
+    pub value: DspStatus,
+    pub payload: Stored,
+}
+
+pub struct OptionDspQueryResp {
+    pub some: bool,
+    pub value: DspQueryResp,
+}
+
+// The stored replies. Product infos that haven't come are empty.
+pub struct DspReplies {
+    pub status: OptionDspStatus,
+    pub hw_info: OptionDspQueryResp,
+    pub dev_info: OptionDevInfoResp,
+    pub prod_info: [ProdInfoResp; 3],
+    pub config: OptionConfigResp,
+    // the nack that ended the power-mode write, not yet taken
+    pub refused: OptionNack,
+    pub power_mode_unanswered: bool,
+}
+
+// Where a start-up stands.
+pub struct DspState {
+    pub step: DspStep,
+    pub replies: DspReplies,
+    // of the reply to the DSP query or the power-mode write
+    pub deadline: OptionInstant,
+}
+
+pub struct DspMoved {
+    pub action: Action,
+    pub state: DspState,
+}
+
+// ---- what is absent
+
+fn no_status() -> DspStatus
+    ensures { λ r. ⌜ r ≡ noDspStatus ⌝ }
+{
+    DspStatus::V80(DspStatus80 {
+        state: 0,
+        input_voltage_usb: 0,
+        system_voltage: 0,
+        battery_current: 0,
+        temperature_raw: 0,
+        battery_voltage: 0,
+        battery_voltage_2: 0,
+        power_level: 0,
+        external_power: false,
+    })
+}
+
+fn no_hw_info() -> OptionDspQueryResp
+    ensures { λ r. ⌜ r ≡ noHwInfo ⌝ }
+{
+    OptionDspQueryResp {
+        some: false,
+        value: DspQueryResp {
+            version: 0,
+            dsp_type: 0,
+            pcb: 0,
+        },
+    }
+}
+
+impl DspReplies {
+    fn none() -> DspReplies
+        ensures { λ r. ⌜ r ≡ noReplies ⌝ }
+    {
+        let bytes = Stored::empty();
+        let status = no_status();
+        let hw_info = no_hw_info();
+        let prod_info = ProdInfoResp { text: bytes };
+        let refused = OptionNack::none();
+        DspReplies {
+            status: OptionDspStatus {
+                some: false,
+                value: status,
+                payload: bytes,
+            },
+            hw_info: hw_info,
+            dev_info: OptionDevInfoResp {
+                some: false,
+                value: DevInfoResp {
+                    text: bytes,
+                    payload: bytes,
+                },
+            },
+            prod_info: [prod_info; 3],
+            config: OptionConfigResp {
+                some: false,
+                value: ConfigResp { params: [0i16; 34] },
+            },
+            refused: refused,
+            power_mode_unanswered: false,
+        }
+    }
+}
+
+// ---- what is stored of a reply
+
+fn status_reply(status: DspStatus, payload: &[u8]) -> OptionDspStatus
+    ensures { λ r. ⌜ r ≡ statusReply status (held (payload .entry)) ⌝ }
+{
+    match status {
+        DspStatus::V80(_) => {
+            let none = Stored::empty();
+            OptionDspStatus {
+                some: true,
+                value: status,
+                payload: none,
+            }
+        }
+        DspStatus::V46(_) => {
+            let bytes = Stored::from_slice(payload);
+            OptionDspStatus {
+                some: true,
+                value: status,
+                payload: bytes,
+            }
+        }
+    }
+}
+
+fn prod_info_req(sub_query: u8) -> Action
+    ensures { λ r. ⌜ r ≡ prodInfoReq «sub_query» ⌝ }
+{
+    Action::send(
+        Command::ProdInfoReq(ProdInfoReq {
+            sub_query: sub_query,
+        }),
+        BusAddr::Dsp,
+    )
+}
+
+fn power_mode() -> Action
+    ensures { λ r. ⌜ r ≡ powerMode ⌝ }
+{
+    Action::send(
+        Command::ParamValue(ParamValue {
+            param_id: XI_DSP_POWER_MODE_ID,
+            value: ParamData::Int24(XI_DSP_POWER_MODE_NORMAL),
+        }),
+        BusAddr::Dsp,
+    )
+}
+
+// ---- an envelope from the DSP, by step
+
+fn moved(step: DspStep, replies: DspReplies, deadline: OptionInstant, action: Action) -> DspMoved
+    ensures { λ r. ⌜ r ≡ record { action = action; state = record { step = step; replies = replies; deadline = deadline } } ⌝ }
+{
+    DspMoved {
+        action: action,
+        state: DspState {
+            step: step,
+            replies: replies,
+            deadline: deadline,
+        },
+    }
+}
+
+impl DspState {
+    pub fn new() -> DspState
+        ensures { λ r. ⌜ r ≡ begun ⌝ }
+    {
+        let replies = DspReplies::none();
+        let deadline = OptionInstant::none();
+        DspState {
+            step: DspStep::WaitStatus,
+            replies: replies,
+            deadline: deadline,
+        }
+    }
+
+    // Nothing is sent, and nothing changes.
+    fn idle(self) -> DspMoved
+        ensures { λ r. ⌜ r ≡ made (idle (view self)) ⌝ }
+    {
+        let action = Action::none();
+        DspMoved {
+            action: action,
+            state: self,
+        }
+    }
+
+    fn wait_status(self, message: Message, payload: &[u8], now: u64) -> DspMoved
+        ensures { λ r. ⌜ r ≡ armAt entry1 DspStep.WaitDspQuery entry2 self (sent 0 message [] [] (held (payload .entry)) now) ⌝ }
+    {
+        if let Message::DspStatus(s) = message {
+            let mut replies = self.replies;
+            let status = status_reply(s, payload);
+            replies.status = status;
+            let deadline = OptionInstant::after(now, DSP_QUERY_TIMEOUT);
+            let action = Action::send(Command::DspQuery, BusAddr::Dsp);
+            return moved(DspStep::WaitDspQuery, replies, deadline, action);
+        }
+        self.idle()
+    }
+
+    // To the device info, with or without a reply to the DSP query.
+    fn to_dev_info(replies: DspReplies) -> DspMoved
+        ensures { λ r. ⌜ r ≡ record { action = sendTo BusAddr.Dsp Command.DevInfoReq; state = record { step = DspStep.WaitDevInfo; replies = replies; deadline = noDeadline } } ⌝ }
+    {
+        let action = Action::send(Command::DevInfoReq, BusAddr::Dsp);
+        moved(DspStep::WaitDevInfo, replies, OptionInstant::none(), action)
+    }
+
+    fn wait_dsp_query(self, message: Message, now: u64) -> DspMoved
+        ensures { λ r. ⌜ r ≡ armAt entry2 DspStep.WaitDevInfo entry3 self (sent 0 message [] [] [] now) ⌝ }
+    {
+        match message {
+            Message::ConfigNack(nack) => {
+                if nack.acked_cmd == DSP_QUERY {
+                    DspState::to_dev_info(self.replies)
+                } else {
+                    self.idle()
+                }
+            }
+            Message::DspQueryResp(r) => {
+                let mut replies = self.replies;
+                let hw_info = OptionDspQueryResp {
+                    some: true,
+                    value: r,
+                };
+                replies.hw_info = hw_info;
+                DspState::to_dev_info(replies)
+            }
+            _ => self.idle(),
+        }
+    }
+
+    fn wait_dev_info(self, message: Message, text: &[u8], payload: &[u8], now: u64) -> DspMoved
+        ensures { λ r. ⌜ r ≡ armAt entry3 DspStep.WaitProdInfo0 entry4 self (sent 0 message [] (held (text .entry)) (held (payload .entry)) now) ⌝ }
+    {
+        if let Message::DevInfoResp = message {
+            let mut replies = self.replies;
+            let dev_info = OptionDevInfoResp {
+                some: true,
+                value: DevInfoResp {
+                    text: Stored::from_slice(text),
+                    payload: Stored::from_slice(payload),
+                },
+            };
+            replies.dev_info = dev_info;
+            return moved(
+                DspStep::WaitProdInfo0,
+                replies,
+                self.deadline,
+                prod_info_req(0x00),
+            );
+        }
+        self.idle()
+    }
+
+    // The product info number i, from 0; then `action` is sent, and the step is `step`.
+    fn wait_prod_info(
+        self,
+        i: usize,
+        step: DspStep,
+        action: Action,
+        message: Message,
+        text: &[u8],
+        now: u64,
+    ) -> DspMoved
+        requires { ⌜ i < 3 ⌝ }
+        ensures { λ r. ⌜ r ≡ armAt (prodInfo i action) step past self (sent 0 message [] (held (text .entry)) [] now) ⌝ }
+    {
+        if let Message::ProdInfoResp = message {
+            let mut replies = self.replies;
+            let prod_info = ProdInfoResp {
+                text: Stored::from_slice(text),
+            };
+            replies.prod_info[i] = prod_info;
+            return moved(step, replies, self.deadline, action);
+        }
+        self.idle()
+    }
+
+    fn wait_config(self, message: Message, params: [i16; 34], now: u64) -> DspMoved
+        ensures { λ r. ⌜ r ≡ armAt (entry7 (modelIn (self .replies .«dev_info»))) (next (modelIn (self .replies .«dev_info»)) DspStep.WaitConfig) (row (modelIn (self .replies .«dev_info»)) (next (modelIn (self .replies .«dev_info»)) DspStep.WaitConfig)) self (sent 0 message params [] [] now) ⌝ }
+    {
+        if let Message::ConfigResp = message {
+            let mut replies = self.replies;
+            let model = DeviceModel::from_stored(replies.dev_info);
+            let config = OptionConfigResp {
+                some: true,
+                value: ConfigResp { params: params },
+            };
+            replies.config = config;
+            if model.has_power_mode() {
+                let deadline = OptionInstant::after(now, DSP_QUERY_TIMEOUT);
+                return moved(DspStep::WaitPowerMode, replies, deadline, power_mode());
+            }
+            return moved(DspStep::Done, replies, self.deadline, Action::none());
+        }
+        self.idle()
+    }
+
+    fn done(replies: DspReplies) -> DspMoved
+        ensures { λ r. ⌜ r ≡ record { action = noAction; state = record { step = DspStep.Done; replies = replies; deadline = noDeadline } } ⌝ }
+    {
+        let action = Action::none();
+        moved(DspStep::Done, replies, OptionInstant::none(), action)
+    }
+
+    fn power_mode_acked(self, ack: ConfigAck) -> DspMoved
+        ensures { λ r. ⌜ r ≡ armAt entry8 DspStep.Done past self (sent 0 (Message.ConfigAck ack) [] [] [] 0) ⌝ }
+    {
+        if ack.acked_cmd == PARAM_VALUE {
+            return DspState::done(self.replies);
+        }
+        self.idle()
+    }
+
+    fn power_mode_refused(self, type_id: u8, nack: ConfigAck) -> DspMoved
+        ensures { λ r. ⌜ r ≡ armAt entry8 DspStep.Done past self (sent «type_id» (Message.ConfigNack nack) [] [] [] 0) ⌝ }
+    {
+        if nack.acked_cmd == PARAM_VALUE {
+            let mut replies = self.replies;
+            let refused = OptionNack {
+                some: true,
+                src: BusAddr::Dsp,
+                type_id: type_id,
+                nack: nack,
+            };
+            replies.refused = refused;
+            return DspState::done(replies);
+        }
+        self.idle()
+    }
+
+    fn wait_power_mode(self, type_id: u8, message: Message, now: u64) -> DspMoved
+        ensures { λ r. ⌜ r ≡ armAt entry8 DspStep.Done past self (sent «type_id» message [] [] [] now) ⌝ }
+    {
+        match message {
+            Message::ConfigAck(ack) => self.power_mode_acked(ack),
+            Message::ConfigNack(nack) => self.power_mode_refused(type_id, nack),
+            _ => self.idle(),
+        }
+    }
+
+    // ---- an accepted envelope from the DSP, an accepted check
+
+    pub fn feed(
+        self,
+        type_id: u8,
+        message: Message,
+        params: [i16; 34],
+        text: &[u8],
+        payload: &[u8],
+        now: u64,
+    ) -> DspMoved
+        ensures { λ r. ⌜ r ≡ answered self (sent «type_id» message params (held (text .entry)) (held (payload .entry)) now) ⌝ }
+    {
+        let awaited = self.step;
+        match awaited {
+            DspStep::WaitStatus => self.wait_status(message, payload, now),
+            DspStep::WaitDspQuery => self.wait_dsp_query(message, now),
+            DspStep::WaitDevInfo => self.wait_dev_info(message, text, payload, now),
+            DspStep::WaitProdInfo0 => {
+                self.wait_prod_info(
+                    0,
+                    DspStep::WaitProdInfo1,
+                    prod_info_req(0x08),
+                    message,
+                    text,
+                    now,
+                )
+            }
+            DspStep::WaitProdInfo1 => {
+                self.wait_prod_info(
+                    1,
+                    DspStep::WaitProdInfo2,
+                    prod_info_req(0x09),
+                    message,
+                    text,
+                    now,
+                )
+            }
+            DspStep::WaitProdInfo2 => {
+                let action = Action::send(Command::ConfigQuery, BusAddr::Dsp);
+                self.wait_prod_info(2, DspStep::WaitConfig, action, message, text, now)
+            }
+            DspStep::WaitConfig => self.wait_config(message, params, now),
+            DspStep::WaitPowerMode => self.wait_power_mode(type_id, message, now),
+            DspStep::Done => self.idle(),
+        }
+    }
+
+    pub fn check(self, now: u64) -> DspMoved
+        ensures { λ r. ⌜ r ≡ answered self (checked now) ⌝ }
+    {
+        let deadline = self.deadline;
+        if !deadline.some {
+            return self.idle();
+        }
+        if now < deadline.value {
+            return self.idle();
+        }
+        let step = self.step;
+        match step {
+            DspStep::WaitDspQuery => DspState::to_dev_info(self.replies),
+            DspStep::WaitPowerMode => {
+                let mut replies = self.replies;
+                replies.power_mode_unanswered = true;
+                DspState::done(replies)
+            }
+            _ => self.idle(),
+        }
+    }
+}

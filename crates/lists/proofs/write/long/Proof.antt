@@ -1,9 +1,0 @@
--- `lists::write::long` is safe: an `i32` fits an `i64`. Assumes nothing.
-use mir.Syntax.{w32}
-use Rattle.lists.proofs.Values.{widens}
-use borrow.Author.Needs.{needs}
-use Rattle.lists.proofs.write.long.Statement.{statement}
-use Rattle.lists.proofs.write.long.Tie as tie
-
-pub long-spec : {M : Type 1} → statement M
-long-spec = tie.close (tie.spec (λ c. widens w32 _ tt (c .before .fits .n)) (λ c κs. search needs) (λ c. search needs))

@@ -1,0 +1,46 @@
+-- Entries that a later tick before never helps, and how to join them: what discharges `Antitone` of a table.
+-- Assumes nothing.
+use mathlib.Core.Path.{_≡_, refl, sym}
+use mathlib.Core.Bool.{Bool, true, false, _&&_, _||_, and-eq-true-iff, true≢false}
+use mathlib.Core.List.{List, [], _∷_, _++_, map}
+use Prim.Native.Nat.{ℕ, _+_}
+use native.Mathlib.Omega.{arith}
+use lib.Dec.{leb}
+use borrow.Author.Tests.{leb-true, le-leb}
+use Rattle.matching.specs.Matching.{Entry}
+use Rattle.matching.specs.Promise.{Each}
+use Rattle.matching.proofs.Machine.{Antitone}
+
+module _ {E : Type 0} where
+  -- a test of the event alone
+  pub antitone-event : (f : E → Bool) → Antitone (λ t e. f e)
+  antitone-event f t t′ e h p = p
+
+  -- at least k after the tick before
+  pub antitone-after : (k : ℕ) (f : E → ℕ) → Antitone (λ t e. leb (t + k) (f e))
+  antitone-after k f t t′ e h p = le-leb (t + k) (f e) (omega (arith, leb-true (t′ + k) (f e) p))
+
+  -- both of two tests
+  pub antitone-and : {p q : Entry E} → Antitone p → Antitone q → Antitone (λ t e. p t e && q t e)
+  antitone-and {p} {q} a b t t′ e h m =
+      let s = and-eq-true-iff (p t′ e) (q t′ e) .0 m in
+      rw (a t t′ e h (s .0), b t t′ e h (s .1))
+
+  -- one of two tests
+  pub antitone-or : {p q : Entry E} → Antitone p → Antitone q → Antitone (λ t e. p t e || q t e)
+  antitone-or {p} {q} a b t t′ e h m = go (p t′ e) (p t e) (a t t′ e h) m
+    where
+      go : (x y : Bool) → (x ≡ true → y ≡ true) → x || q t′ e ≡ true → y || q t e ≡ true
+      go x true i n = refl
+      go true false i n = absurd (true≢false (sym (i refl)))
+      go false false i n = b t t′ e h n
+
+-- every entry of a table that is made from rows by one rule
+pub antitone-rows : {A E : Type 0} (f : A → Entry E) → ((x : A) → Antitone (f x)) → (l : List A) → Each Antitone (map f l)
+antitone-rows f h [] = tt
+antitone-rows f h (x ∷ l) = (h x, antitone-rows f h l)
+
+-- what holds of each element of two lists joined holds of each of either
+pub each-append : {A : Type 0} (P : A → Type 0) (a b : List A) → Each P (a ++ b) → Each P a × Each P b
+each-append P [] b h = (tt, h)
+each-append P (x ∷ a) b h = let w = each-append P a b (h .1) in ((h .0, w .0), w .1)

@@ -1,0 +1,9 @@
+pub mod Machine
+pub mod Embeds
+pub mod Leftmost
+pub mod Ticked
+pub mod Called
+pub mod Entries
+pub mod Spelled
+pub mod Promised
+pub mod Example

@@ -1,0 +1,108 @@
+// The fields of a kind, read by its layout: `NAME=TYPE` for each field, with a blank behind it.
+use crate::cursor::Cursor;
+use crate::cursor::skip;
+use crate::number::Limit;
+use crate::number::Number;
+use crate::reasons;
+use words::behind;
+use words::byte_at;
+use words::find;
+use words::kinds::VALUES;
+
+// The limits of `u8`, `u16`, `u32`, `i16` and `i32`, by their first two letters.
+fn limit_of(kind: u8, size: u8) -> Limit {
+    let most = match size {
+        b'8' => 0xFF,
+        b'1' => 0xFFFF,
+        _ => 0xFFFF_FFFF,
+    };
+    if kind == b'i' {
+        return Limit {
+            most: most / 2,
+            signed: true,
+        };
+    }
+    Limit {
+        most: most,
+        signed: false,
+    }
+}
+
+impl Cursor {
+    // The value of a field whose type stands at `at` of the layout.
+    fn field(self, line: &[u8], layout: &[u8], at: usize) -> Number {
+        if self.bad() {
+            return Number { c: self, value: 0 };
+        }
+        let kind = byte_at(layout, at);
+        match kind {
+            b'b' => self.boolean(line),
+            b'f' => self.float(line),
+            _ => {
+                let size = byte_at(layout, std::num::wrapping_add_usize(at, 1));
+                let to = skip(line, self.at, false);
+                self.number_here(line, to, limit_of(kind, size))
+            }
+        }
+    }
+
+    // The fields of the layout that begins at `from` and ends with a semicolon.
+    pub fn fields(
+        self,
+        line: &[u8],
+        layout: &[u8],
+        from: usize,
+        values: &mut [u64; VALUES],
+    ) -> Cursor {
+        let mut c = self;
+        let mut at = from;
+        let mut k = 0;
+        while k < VALUES {
+            if byte_at(layout, at) == b';' {
+                return c;
+            }
+            c = c.name(line, layout, at);
+            let kind = behind(layout, at, b'=');
+            let read = c.field(line, layout, kind);
+            c = read.c;
+            values[k] = read.value;
+            at = behind(layout, kind, b' ');
+            k += 1;
+        }
+        c
+    }
+
+    // Where the number that stands here ends: at a comma or a blank.
+    fn number_end(self, line: &[u8]) -> usize {
+        let comma = find(line, self.at, b',');
+        let end = skip(line, self.at, false);
+        if comma < end {
+            return comma;
+        }
+        end
+    }
+
+    // 34 numbers with commas between them.
+    pub fn listed(self, line: &[u8], values: &mut [u64; VALUES]) -> Cursor {
+        let mut c = self;
+        let mut k = 0;
+        while k < VALUES {
+            let to = c.number_end(line);
+            let read = c.number_here(line, to, limit_of(b'i', b'1'));
+            c = read.c;
+            values[k] = read.value;
+            if c.bad() {
+                return c;
+            }
+            k += 1;
+            let more = byte_at(line, to) == b',';
+            if more != (k < VALUES) {
+                return c.fail(self.at, reasons::NOT_34);
+            }
+            if more {
+                c = c.to(std::num::wrapping_add_usize(to, 1));
+            }
+        }
+        c
+    }
+}

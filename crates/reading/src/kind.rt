@@ -1,0 +1,124 @@
+// The kinds of a message, and their fields.
+use crate::bytes::BYTES;
+use crate::cursor::Cursor;
+use crate::cursor::choice;
+use crate::reasons;
+use words::behind;
+use words::kinds;
+use words::kinds::VALUES;
+use words::place;
+
+// The number of a kind, and the cursor behind it, or behind its name.
+pub struct Kind {
+    pub c: Cursor,
+    pub kind: usize,
+}
+
+// Where the fields of a kind begin.
+fn fields_of(kinds: &[u8], kind: usize) -> usize {
+    behind(kinds, place(kinds, kind, b';'), b' ')
+}
+
+impl Cursor {
+    fn with_kind(self, kind: usize) -> Kind {
+        Kind {
+            c: self,
+            kind: kind,
+        }
+    }
+
+    // The name of a kind whose number is in this range.
+    fn kind_name(self, line: &[u8], kinds: &[u8], least: usize, most: usize) -> Kind {
+        let word = self.word(line);
+        let kind = choice(line, word, kinds, b';');
+        if kind < least || most < kind {
+            return self.fail(word.from, reasons::UNKNOWN_KIND)
+                .with_kind(kinds::OTHER);
+        }
+        self.to(word.to).with_kind(kind)
+    }
+
+    // What has more than one form: the form that stands here.
+    fn form(self, line: &[u8], kinds: &[u8], kind: usize) -> Kind {
+        if kind == kinds::DSP_STATUS {
+            return self.kind_name(line, kinds, kinds::V80, kinds::V46);
+        }
+        if kind == kinds::PARAM_VALUE {
+            let id = self.word(line);
+            if self.to(id.to).next_is(line, b"float40=") {
+                return self.with_kind(kinds::FLOAT40);
+            }
+        }
+        self.with_kind(kind)
+    }
+
+    // The two bytes of `tail`. No sequence looks at them.
+    fn tail(self, line: &[u8], kinds: &[u8], bytes: &mut [u8; BYTES]) -> Cursor {
+        let c = self.name(line, kinds, fields_of(kinds, kinds::TAIL));
+        if c.bad() {
+            return c;
+        }
+        let tail = c.bytes(line, bytes, 0);
+        let behind = tail.c;
+        if behind.bad() || tail.end == 2 {
+            return behind;
+        }
+        c.fail(c.at, reasons::OUT_OF_RANGE)
+    }
+
+    fn kind_fields(
+        self,
+        line: &[u8],
+        kinds: &[u8],
+        kind: usize,
+        values: &mut [u64; VALUES],
+        bytes: &mut [u8; BYTES],
+    ) -> Cursor {
+        let from = fields_of(kinds, kind);
+        if kind == kinds::CONFIG_RESP {
+            return self.params(line, kinds, from, values);
+        }
+        let c = self.fields(line, kinds, from, values);
+        if kind == kinds::TIME_SYNC {
+            return c.tail(line, kinds, bytes);
+        }
+        c
+    }
+
+    fn params(self, line: &[u8], kinds: &[u8], from: usize, values: &mut [u64; VALUES]) -> Cursor {
+        let c = self.name(line, kinds, from);
+        if c.bad() {
+            return c;
+        }
+        c.listed(line, values)
+    }
+
+    fn kind_in(
+        self,
+        line: &[u8],
+        kinds: &[u8],
+        values: &mut [u64; VALUES],
+        bytes: &mut [u8; BYTES],
+    ) -> Kind {
+        let named = self.kind_name(line, kinds, 0, kinds::OTHER);
+        let c = named.c;
+        if c.bad() {
+            return named;
+        }
+        let formed = c.form(line, kinds, named.kind);
+        let c = formed.c;
+        if c.bad() {
+            return formed;
+        }
+        c.kind_fields(line, kinds, formed.kind, values, bytes)
+            .with_kind(formed.kind)
+    }
+
+    // A kind and its fields, whose values are kept.
+    pub fn kind(self, line: &[u8], values: &mut [u64; VALUES], bytes: &mut [u8; BYTES]) -> Kind {
+        if self.bad() {
+            return self.with_kind(kinds::OTHER);
+        }
+        self.kind_in(line, &kinds::KINDS, values, bytes)
+    }
+}

@@ -1,0 +1,51 @@
+// Why a line can't be read: the number of a text, or EXPECTED and the place in KINDS of a field's name that is missing.
+
+// No reason: the line can be read so far.
+pub const NONE: usize = 0;
+
+pub const NOT_A_NUMBER: usize = 1;
+
+pub const OUT_OF_RANGE: usize = 2;
+
+pub const NOT_A_BOOL: usize = 3;
+
+pub const NOT_A_FLOAT: usize = 4;
+
+pub const NAN: usize = 5;
+
+pub const NO_END: usize = 6;
+
+pub const CONTROL_BYTE: usize = 7;
+
+pub const BAD_ESCAPE: usize = 8;
+
+pub const NOT_CLOSED: usize = 9;
+
+pub const NOT_HEX: usize = 10;
+
+pub const ODD_HEX: usize = 11;
+
+pub const NOT_34: usize = 12;
+
+pub const UNKNOWN_KIND: usize = 13;
+
+pub const UNKNOWN_MODEL: usize = 14;
+
+pub const UNKNOWN_SOURCE: usize = 15;
+
+pub const UNKNOWN_CALL: usize = 16;
+
+pub const NOT_BEGUN: usize = 17;
+
+pub const LONG_LINE: usize = 18;
+
+pub const NOT_ITS_CALL: usize = 19;
+
+pub const EXPECTED: usize = 32;
+
+// The texts, each before a bar.
+pub const REASONS: [u8; 336] =
+    *b"|not a number|out of range|not a bool|not a float|a NaN can't be read|end of line expected|\
+    control byte in a text|bad escape|text not closed|not a hex digit|odd number of hex digits|\
+    34 numbers expected|unknown kind|unknown model|unknown source|unknown call|no sequence has begun|\
+    line longer than 65536 bytes|not a call of this sequence|";

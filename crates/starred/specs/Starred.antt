@@ -1,0 +1,72 @@
+-- The starred trials of the scope (01: "Trials"), one row each: what the definitions that the contracts cite answer, and what the scope
+-- says. Proved as a whole.
+-- Assumes nothing.
+use mathlib.Core.Path.{_≡_, refl}
+use mathlib.Core.List.{List, [], _∷_, map}
+use Prim.Native.Nat.{ℕ}
+use Rattle.protocol.specs.declared.addr.BusAddr.{BusAddr}
+use Rattle.protocol.specs.declared.status.DspStatus.{DspStatus}
+use Rattle.protocol.specs.declared.Command.{Command}
+use Rattle.protocol.specs.declared.Message.{Message}
+use Rattle.protocol.specs.declared.Action.{Action}
+use Rattle.protocol.specs.Action.{noAction, sendTo}
+use Rattle.device.specs.declared.model.DeviceModel.{DeviceModel}
+use Rattle.device.specs.Model.{modelOf}
+use Rattle.device.specs.Sends.{resultAck}
+use Rattle.sequence.specs.Events.{Envelope}
+use Rattle.dsp.specs.declared.DspSequencer.{DspSequencer}
+use Rattle.dsp.specs.Answers.{begun, fedTo, polled}
+
+-- what a call can answer
+pub data Answer : Type 0 where
+  model : DeviceModel → Answer
+  action : Action → Answer
+
+pub record Trial : Type 0 where
+  pub answered : Answer
+  pub said : Answer
+
+abbrev trial : Answer → Answer → Trial
+trial a s = record { answered = a; said = s }
+
+-- an acknowledgement of this command, from the app to the Avr
+abbrev ack : ℕ → Action
+ack c = sendTo BusAddr.Avr (Command.ConfigAck (record { «bus_addr» = 0x10; «acked_cmd» = c }))
+
+-- a DSP status of a Gen2, and the start-up after it came at 5,000,000,000 ns
+abbrev dspStatus : Envelope
+dspStatus = record {
+  src = BusAddr.Dsp;
+  type-id = 0xAA;
+  message = Message.DspStatus (DspStatus.V46 (record { state = 1; version = 0x46 }));
+  params = [];
+  text = [];
+  payload = [];
+}
+
+abbrev waiting : DspSequencer
+waiting = fedTo (begun .seq) dspStatus 5_000_000_000 .seq
+
+abbrev pub starred : List Trial
+starred =
+    -- payload "FS Xi": Xi
+    trial (model (modelOf (70 ∷ 83 ∷ 32 ∷ 88 ∷ 105 ∷ []))) (model DeviceModel.Xi) ∷
+    -- "FS X": Mevo
+    trial (model (modelOf (70 ∷ 83 ∷ 32 ∷ 88 ∷ []))) (model DeviceModel.Mevo) ∷
+    -- "abFS Xi": Xi
+    trial (model (modelOf (97 ∷ 98 ∷ 70 ∷ 83 ∷ 32 ∷ 88 ∷ 105 ∷ []))) (model DeviceModel.Xi) ∷
+    -- Xi, Avr, 0xD4: ack 0x54
+    trial (action (resultAck DeviceModel.Xi BusAddr.Avr 0xD4)) (action (ack 0x54)) ∷
+    -- 0xE8: ack 0x68
+    trial (action (resultAck DeviceModel.Xi BusAddr.Avr 0xE8)) (action (ack 0x68)) ∷
+    -- Mevo: no ack
+    trial (action (resultAck DeviceModel.Mevo BusAddr.Avr 0xD4)) (action noAction) ∷
+    trial (action (resultAck DeviceModel.Mevo BusAddr.Avr 0xE8)) (action noAction) ∷
+    -- DSP status at 5,000,000,000; check at 6,999,999,999: nothing
+    trial (action (polled waiting 6_999_999_999 .action)) (action noAction) ∷
+    -- at 7,000,000,000: DevInfoReq
+    trial (action (polled (polled waiting 6_999_999_999 .seq) 7_000_000_000 .action)) (action (sendTo BusAddr.Dsp Command.DevInfoReq)) ∷
+    []
+
+pub starred-right : map (λ t. t .answered) starred ≡ map (λ t. t .said) starred
+starred-right = refl

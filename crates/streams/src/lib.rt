@@ -1,0 +1,184 @@
+// A list as it is read, line by line, and its answers as they are written out. What the lines say is the business of others.
+use libc::STDOUT_FILENO;
+use reading::call::LINE;
+use words::part;
+use writing::write;
+use writing::write::OUT;
+
+// The bytes of one read.
+pub const INPUT: usize = 65_536;
+
+// The line buffer: one byte more than a line may have, so that a longer one shows.
+pub const LONGER: usize = LINE + 1;
+
+// The output is written out once it is longer than this: no answer is longer than the rest.
+const NEARLY_FULL: usize = 98_304;
+
+// Where a list stands. Its input, the line that is read and the output are in buffers beside it.
+pub struct Stream {
+    pub fd: i32,
+    // whether the stored state stands behind each answer
+    pub with_state: bool,
+    // the number of the line, from 1
+    pub number: u64,
+    // the bytes of the input that are taken, and all of them
+    pub at: usize,
+    pub end: usize,
+    // the bytes of the line so far, at most LONGER, and whether its line feed was there
+    pub line: usize,
+    pub whole: bool,
+    // the bytes of output that aren't written out yet
+    pub out: usize,
+    // whether there is more to read, and output can be written
+    pub more: bool,
+    // whether a read failed
+    pub failed: bool,
+}
+
+// The next bytes of a line, up to its line feed or the end of the input.
+struct Gathered {
+    line: usize,
+    at: usize,
+    ended: bool,
+}
+
+fn gather(input: &[u8], from: usize, buffer: &mut [u8; LONGER], line: usize) -> Gathered {
+    let mut n = line;
+    let mut i = from;
+    while i < input.len() {
+        let b = input[i];
+        i += 1;
+        if b == b'\n' {
+            return Gathered {
+                line: n,
+                at: i,
+                ended: true,
+            };
+        }
+        if n < LONGER {
+            buffer[n] = b;
+            n += 1;
+        }
+    }
+    Gathered {
+        line: n,
+        at: i,
+        ended: false,
+    }
+}
+
+impl Stream {
+    // A list before its first line.
+    pub fn new(fd: i32, with_state: bool) -> Stream {
+        Stream {
+            fd: fd,
+            with_state: with_state,
+            number: 0,
+            at: 0,
+            end: 0,
+            line: 0,
+            whole: false,
+            out: 0,
+            more: true,
+            failed: false,
+        }
+    }
+
+    // Before the next line.
+    fn counted(self) -> Stream {
+        let mut next = self;
+        next.number = std::num::wrapping_add_u64(self.number, 1);
+        next.line = 0;
+        next.whole = false;
+        next
+    }
+
+    // With the next bytes of the line.
+    fn gathered(self, input: &[u8], line: &mut [u8; LONGER]) -> Stream {
+        let got = gather(part(input, 0, self.end), self.at, line, self.line);
+        let mut next = self;
+        next.at = got.at;
+        next.line = got.line;
+        next.whole = got.ended;
+        next
+    }
+
+    // With the output written out where it is longer than this.
+    fn flushed(self, out: &[u8], most: usize) -> Stream {
+        if self.out <= most {
+            return self;
+        }
+        let mut next = self;
+        next.out = 0;
+        if !io::write_all(STDOUT_FILENO, part(out, 0, self.out)) {
+            next.more = false;
+        }
+        next
+    }
+
+    // After one more read. Nobody waits for an answer while it waits for input.
+    fn filled(self, input: &mut [u8; INPUT], out: &[u8]) -> Stream {
+        let mut next = self.flushed(out, 0);
+        let got = libc::read(next.fd, input);
+        next.at = 0;
+        next.end = io::count(got, input);
+        if got <= 0 {
+            next.more = false;
+            next.failed = got < 0;
+        }
+        next
+    }
+
+    fn waits(self) -> bool {
+        if self.whole {
+            return false;
+        }
+        self.more
+    }
+
+    // With the next line in its buffer. A proved loop has to end, and nothing says that the input does: so the reads are counted
+    // down from a number that no run uses up.
+    pub fn next_line(
+        self,
+        input: &mut [u8; INPUT],
+        line: &mut [u8; LONGER],
+        out: &[u8; OUT],
+    ) -> Stream {
+        let mut next = self.counted().gathered(input, line);
+        let mut turns = u64::MAX;
+        while 0 < turns && next.waits() {
+            next = next.filled(input, out).gathered(input, line);
+            turns -= 1;
+        }
+        next
+    }
+
+    // Whether there was a next line. The last one may lack its line feed.
+    pub fn has_line(self) -> bool {
+        if self.whole {
+            return true;
+        }
+        0 < self.line
+    }
+
+    // With the number of the line written, before its answer.
+    pub fn numbered(self, out: &mut [u8; OUT]) -> Stream {
+        let mut next = self;
+        let end = write::decimal(out, self.out, self.number);
+        next.out = write::text(out, end, b": ");
+        next
+    }
+
+    // After an answer that ends at `at`.
+    pub fn answered(self, out: &mut [u8; OUT], at: usize) -> Stream {
+        let mut next = self;
+        next.out = write::byte(out, at, b'\n');
+        next.flushed(out, NEARLY_FULL)
+    }
+
+    // Writes the rest of the output out, and answers whether the list was read to its end.
+    pub fn finish(self, out: &[u8; OUT]) -> bool {
+        let last = self.flushed(out, 0);
+        !last.failed
+    }
+}
