@@ -8,7 +8,7 @@ use std::thread;
 use crate::coverage::Coverage;
 use crate::front::Front;
 use crate::generate::{BadLines, Generator, Leaning};
-use crate::list::{self, Call};
+use crate::list::{self, Call, Which};
 
 /// The lines after which a list ends, with its last start-up.
 pub const LIST_LINES: usize = 20_000;
@@ -31,7 +31,7 @@ pub struct List {
 
 impl Source {
     pub fn new(seed: u64, leaning: Leaning, with_bad_lines: bool) -> Self {
-        let mut bad_lines = with_bad_lines.then(|| BadLines::new(seed));
+        let mut bad_lines = with_bad_lines.then(|| BadLines::new(seed, leaning.which));
         Source {
             generator: Generator::new(seed, leaning),
             written: bad_lines.as_mut().map(BadLines::all).unwrap_or_default(),
@@ -69,7 +69,7 @@ impl Source {
         }
         match self.written.pop() {
             Some(written) => Some(written),
-            None => bad_lines.spoiled(line),
+            None => bad_lines.any(line),
         }
     }
 
@@ -192,8 +192,10 @@ fn start_up_of(list: &List, difference: &Difference) -> Vec<String> {
     let number = answer.split_once(':').and_then(|(n, _)| n.parse().ok());
     let end: usize = number.unwrap_or(list.lines.len());
     let lines = &list.lines[..end];
-    let begins =
-        |line: &String| matches!(list::read(line.as_bytes(), true), Ok(Some(Call::Begin(_))));
+    let begins = |line: &String| {
+        let read = list::read(line.as_bytes(), Some(Which::Dsp));
+        matches!(read, Ok(Some(Call::Begin(_))))
+    };
     lines[lines.iter().rposition(begins).unwrap_or(0)..].to_vec()
 }
 

@@ -1,103 +1,61 @@
-//! The DSP start-up behind a list of calls.
+//! The DSP start-up.
 
-use std::time::{Duration, Instant, UNIX_EPOCH};
+use std::time::Instant;
 
-use crate::front::{self, Running, View};
-use crate::list::Feed;
-use crate::protocol::handshake::DevInfoResp;
-use crate::refusal;
+use crate::conn::Envelope;
+use crate::list::Which;
+use crate::protocol::handshake::{DevInfoResp, DeviceModel};
+use crate::running::{Clock, Sequencer, Step, Waits};
 use crate::seq::inspect;
-use crate::seq::{Action, DspSequencer, DspSync, Sequence};
+use crate::seq::{Action, DspSequencer};
 use crate::write;
 
-pub struct Dsp {
-    seq: DspSequencer,
-    /// The instant of reading 0.
-    base: Instant,
-    /// The last accepted reading.
-    last: u64,
-}
+impl Sequencer for DspSequencer {
+    const WHICH: Which = Which::Dsp;
 
-impl Dsp {
-    pub fn begin(base: Instant, out: &mut String) -> Self {
-        let (seq, first) = DspSequencer::new();
-        let dsp = Dsp { seq, base, last: 0 };
-        write::sends(out, &first);
-        dsp.step(out);
-        dsp
-    }
-
-    fn at(&self, reading: u64) -> Instant {
-        self.base + Duration::from_nanos(reading)
-    }
-
-    fn deadline(&self) -> Option<u64> {
-        let reading = |at: Instant| at.duration_since(self.base).as_nanos();
-        let deadline = inspect::dsp(&self.seq).deadline.map(reading);
-        deadline.map(|n| u64::try_from(n).expect("deadlines are readings"))
-    }
-
-    fn step(&self, out: &mut String) {
-        out.push_str("; ");
-        out.push_str(inspect::dsp(&self.seq).step);
-    }
-
-    fn accepted(&mut self, now: u64, actions: &[Action], out: &mut String) {
-        self.last = now;
-        out.push_str("accepted; ");
-        write::sends(out, actions);
-        self.step(out);
-    }
-
-    fn refused(&self, number: u8, out: &mut String) {
-        out.push_str("refused ");
-        write::decimal(out, number);
-        out.push_str("; no send");
-        self.step(out);
-    }
-}
-
-impl Running for Dsp {
-    fn feed(&mut self, feed: &Feed, out: &mut String) {
-        let bytes = refusal::of_bytes(&feed.text, &feed.payload);
-        if let Some(number) = bytes.or(refusal::of_reading(feed.now, self.last)) {
-            return self.refused(number, out);
+    fn step(&self) -> Step {
+        Step {
+            name: inspect::dsp(self).step,
+            index: None,
         }
-        let now = self.at(feed.now);
-        let actions = self.seq.feed(&front::envelope(feed), now, UNIX_EPOCH);
-        self.accepted(feed.now, &actions, out);
     }
 
-    fn check(&mut self, now: u64, out: &mut String) {
-        if let Some(number) = refusal::of_reading(now, self.last) {
-            return self.refused(number, out);
+    fn waits(&self) -> Waits {
+        Waits {
+            deadline: inspect::dsp(self).deadline,
+            repoll: None,
         }
-        let actions = self.seq.check_timeout(self.at(now));
-        self.accepted(now, &actions, out);
+    }
+
+    /// The one that a stored device info names.
+    fn model(&self) -> Option<DeviceModel> {
+        inspect::dsp(self).dev_info.map(DevInfoResp::model)
+    }
+
+    fn check(&mut self, now: Instant) -> Vec<Action> {
+        self.check_timeout(now)
+    }
+
+    fn take(&mut self) -> Option<Envelope> {
+        self.take_refused()
     }
 
     fn result(&self, out: &mut String) {
-        if !self.seq.is_complete() {
-            out.push_str("refused ");
-            return write::decimal(out, refusal::NOT_DONE);
+        let sync = inspect::done_dsp(self).into_result();
+        write::dsp_status(out, Some(&sync.status));
+        write::hw_info(out, sync.hw_info.as_ref());
+        write::dev_info(out, Some(&sync.dev_info));
+        for info in &sync.prod_info {
+            write::bytes(out, "prod_info", info.text.as_bytes());
         }
-        out.push_str("accepted;");
-        result(out, &inspect::copy_dsp(&self.seq).into_result());
+        write::params(out, Some(&sync.config));
+        write::word(out, "model", sync.model.label());
+        let unanswered = sync.power_mode_unanswered;
+        write::boolean(out, "power_mode_unanswered", unanswered);
     }
 
-    fn take(&mut self, out: &mut String) {
-        match self.seq.take_refused() {
-            None => out.push_str("none"),
-            Some(env) => {
-                out.push_str("nack ");
-                write::nack(out, &env);
-            }
-        }
-    }
-
-    fn state(&self, out: &mut String) {
-        let seq = inspect::dsp(&self.seq);
-        write::number(out, "last", self.last);
+    fn state(&self, clock: &Clock, out: &mut String) {
+        let seq = inspect::dsp(self);
         write::dsp_status(out, seq.status);
         write::hw_info(out, seq.hw_info);
         write::dev_info(out, seq.dev_info);
@@ -106,7 +64,7 @@ impl Running for Dsp {
             write::bytes(out, "prod_info", text.as_bytes());
         }
         write::params(out, seq.config);
-        write::reading(out, "deadline", self.deadline());
+        write::reading(out, "deadline", clock.reading(seq.deadline));
         match seq.refused {
             None => write::none(out, "refused"),
             Some(env) => {
@@ -117,29 +75,4 @@ impl Running for Dsp {
         let unanswered = seq.power_mode_unanswered;
         write::boolean(out, "power_mode_unanswered", unanswered);
     }
-
-    fn view(&self) -> View {
-        let seq = inspect::dsp(&self.seq);
-        View {
-            sequence: "dsp",
-            step: seq.step,
-            last: self.last,
-            deadline: self.deadline(),
-            model: seq.dev_info.map(DevInfoResp::model),
-        }
-    }
-}
-
-/// Every field of a result, each after a blank.
-fn result(out: &mut String, sync: &DspSync) {
-    write::dsp_status(out, Some(&sync.status));
-    write::hw_info(out, sync.hw_info.as_ref());
-    write::dev_info(out, Some(&sync.dev_info));
-    for info in &sync.prod_info {
-        write::bytes(out, "prod_info", info.text.as_bytes());
-    }
-    write::params(out, Some(&sync.config));
-    write::word(out, "model", sync.model.label());
-    let unanswered = sync.power_mode_unanswered;
-    write::boolean(out, "power_mode_unanswered", unanswered);
 }

@@ -5,35 +5,12 @@ use std::time::Instant;
 
 use crate::addr::BusAddr;
 use crate::conn::Envelope;
-use crate::dsp::Dsp;
-use crate::list::{self, Bad, Begin, Call, Feed};
+use crate::list::{self, Bad, Begin, Call};
 use crate::protocol::Message;
 use crate::protocol::handshake::{DevInfoResp, DeviceModel};
-use crate::protocol::status::DspStatus;
-use crate::seq;
+use crate::running::{Run, Running, View};
+use crate::seq::{self, AvrSequencer, DspSequencer, PiSequencer};
 use crate::write;
-
-/// A sequence that has begun.
-pub trait Running {
-    fn feed(&mut self, feed: &Feed, out: &mut String);
-    fn check(&mut self, now: u64, out: &mut String);
-    fn result(&self, out: &mut String);
-    fn take(&mut self, out: &mut String);
-    /// Every stored field, each after a blank.
-    fn state(&self, out: &mut String);
-    fn view(&self) -> View;
-}
-
-/// What the generator and the coverage look at.
-#[derive(Clone, Copy)]
-pub struct View {
-    pub sequence: &'static str,
-    pub step: &'static str,
-    pub last: u64,
-    pub deadline: Option<u64>,
-    /// The model that a stored device info names.
-    pub model: Option<DeviceModel>,
-}
 
 /// The state between two lines of a list.
 pub struct Front {
@@ -60,7 +37,7 @@ impl Front {
     /// Writes the answer to a line, with a line feed; nothing to a comment.
     pub fn line(&mut self, line: &[u8], out: &mut String) -> Result<Option<Call>, Bad> {
         self.number += 1;
-        let read = list::read(line, self.running.is_some());
+        let read = list::read(line, self.running.as_ref().map(|running| running.which()));
         if matches!(read, Ok(None)) {
             return read;
         }
@@ -77,7 +54,7 @@ impl Front {
 
     fn call(&mut self, call: &Call, out: &mut String) {
         match call {
-            Call::Begin(begin) => self.begin(begin, out),
+            Call::Begin(begin) => self.begin(*begin, out),
             Call::Ack {
                 model,
                 src,
@@ -100,9 +77,15 @@ impl Front {
         self.running.as_deref_mut().expect("a sequence has begun")
     }
 
-    fn begin(&mut self, begin: &Begin, out: &mut String) {
+    fn begin(&mut self, begin: Begin, out: &mut String) {
+        let base = self.base;
         let begun: Box<dyn Running> = match begin {
-            Begin::Dsp => Box::new(Dsp::begin(self.base, out)),
+            Begin::Dsp => Box::new(Run::begin(DspSequencer::new(), base, out)),
+            Begin::Avr(None) => Box::new(Run::begin(AvrSequencer::new(), base, out)),
+            Begin::Avr(Some(model)) => {
+                Box::new(Run::begin(AvrSequencer::new_for(model), base, out))
+            }
+            Begin::Pi => Box::new(Run::begin(PiSequencer::new(), base, out)),
         };
         self.running = Some(begun);
     }
@@ -156,31 +139,4 @@ fn model(payload: &[u8], out: &mut String) {
         payload: payload.to_vec(),
     };
     out.push_str(info.model().label());
-}
-
-/// The envelope that a feed hands in. Bytes that its kind has no place for
-/// are left out.
-pub fn envelope(feed: &Feed) -> Envelope {
-    let mut message = feed.message.clone();
-    let payload = || feed.payload.clone();
-    // No comparison has a text that isn't UTF-8.
-    let text = || String::from_utf8_lossy(&feed.text).into_owned();
-    match &mut message {
-        Message::DspStatus(DspStatus::V46(m)) => m.payload = payload(),
-        Message::PiStatus(m) => m.payload = payload(),
-        Message::Text(m) => m.text = text(),
-        Message::AvrConfigResp(m) => m.payload = payload(),
-        Message::DevInfoResp(m) => (m.text, m.payload) = (text(), payload()),
-        Message::ProdInfoResp(m) => m.text = text(),
-        Message::NetConfigResp(m) => m.text = text(),
-        Message::CalParamResp(m) => m.payload = payload(),
-        Message::CalDataResp(m) => m.payload = payload(),
-        _ => {}
-    }
-    Envelope {
-        src: feed.src,
-        type_id: feed.type_id,
-        raw: Vec::new(),
-        message,
-    }
 }

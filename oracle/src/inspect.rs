@@ -28,10 +28,11 @@ pub fn dsp(seq: &DspSequencer) -> Dsp<'_> {
     }
 }
 
-/// A copy, for a result while the sequence goes on.
-pub fn copy_dsp(seq: &DspSequencer) -> DspSequencer {
+/// A copy at Done, for a result while the sequence goes on.
+pub fn done_dsp(seq: &DspSequencer) -> DspSequencer {
+    assert!(seq.is_complete());
     DspSequencer {
-        step: copy_dsp_step(&seq.step),
+        step: DspStep::Done,
         status: seq.status.clone(),
         hw_info: seq.hw_info.clone(),
         dev_info: seq.dev_info.clone(),
@@ -40,20 +41,6 @@ pub fn copy_dsp(seq: &DspSequencer) -> DspSequencer {
         deadline: seq.deadline,
         refused: seq.refused.clone(),
         power_mode_unanswered: seq.power_mode_unanswered,
-    }
-}
-
-fn copy_dsp_step(step: &DspStep) -> DspStep {
-    match step {
-        DspStep::WaitStatus => DspStep::WaitStatus,
-        DspStep::WaitDspQuery => DspStep::WaitDspQuery,
-        DspStep::WaitDevInfo => DspStep::WaitDevInfo,
-        DspStep::WaitProdInfo0 => DspStep::WaitProdInfo0,
-        DspStep::WaitProdInfo1 => DspStep::WaitProdInfo1,
-        DspStep::WaitProdInfo2 => DspStep::WaitProdInfo2,
-        DspStep::WaitConfig => DspStep::WaitConfig,
-        DspStep::WaitPowerMode => DspStep::WaitPowerMode,
-        DspStep::Done => DspStep::Done,
     }
 }
 
@@ -99,6 +86,23 @@ pub fn avr(seq: &AvrSequencer) -> Avr<'_> {
     }
 }
 
+/// A copy at Done, for a result while the sequence goes on.
+pub fn done_avr(seq: &AvrSequencer) -> AvrSequencer {
+    assert!(seq.is_complete());
+    AvrSequencer {
+        step: AvrStep::Done,
+        model: seq.model,
+        status: seq.status.clone(),
+        dev_info: seq.dev_info.clone(),
+        config: seq.config.clone(),
+        factory_cal: seq.factory_cal.clone(),
+        if_cal: seq.if_cal.clone(),
+        avr_config: seq.avr_config.clone(),
+        cal_deadline: seq.cal_deadline,
+        repoll_at: seq.repoll_at,
+    }
+}
+
 fn avr_step(step: &AvrStep) -> &'static str {
     match step {
         AvrStep::WaitStatus1 => "WaitStatus1",
@@ -136,6 +140,18 @@ pub fn pi(seq: &PiSequencer) -> Pi<'_> {
         cam_config: seq.cam_config.as_ref(),
         ssid: &seq.ssid,
         password: &seq.password,
+    }
+}
+
+/// A copy at Done, for a result while the sequence goes on.
+pub fn done_pi(seq: &PiSequencer) -> PiSequencer {
+    assert!(seq.is_complete());
+    PiSequencer {
+        step: PiStep::Done,
+        dev_info: seq.dev_info.clone(),
+        cam_config: seq.cam_config.clone(),
+        ssid: seq.ssid.clone(),
+        password: seq.password.clone(),
     }
 }
 

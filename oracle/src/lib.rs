@@ -19,11 +19,14 @@ pub mod frame;
 // pub mod seq, from build.rs
 include!(concat!(env!("OUT_DIR"), "/modules.rs"));
 
+mod avr;
 pub mod compare;
 pub mod coverage;
-pub mod dsp;
+mod dsp;
 pub mod front;
 pub mod generate;
 pub mod list;
+mod pi;
 pub mod refusal;
+pub mod running;
 pub mod write;

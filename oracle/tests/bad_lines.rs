@@ -1,22 +1,23 @@
 //! Each reason for which a line can't be read, with its column.
 
-use oracle::list::{self, Call, LONGEST, Reason};
+use oracle::list::{self, Bad, Call, LONGEST, Reason, Which};
 
-/// The answer to a line while a sequence runs.
-fn bad(line: &str) -> String {
-    match list::read(line.as_bytes(), true) {
-        Ok(_) => panic!("read: {line}"),
-        Err(bad) => bad.to_string(),
-    }
+/// Reads a line while the DSP's start-up runs, which has every call.
+fn read(line: &str) -> Result<Option<Call>, Bad> {
+    list::read(line.as_bytes(), Some(Which::Dsp))
 }
 
 #[track_caller]
 fn check(line: &str, column: usize, reason: &str) {
-    assert_eq!(bad(line), format!("bad line at column {column}: {reason}"));
+    let answer = match read(line) {
+        Ok(_) => panic!("read: {line}"),
+        Err(bad) => bad.to_string(),
+    };
+    assert_eq!(answer, format!("bad line at column {column}: {reason}"));
 }
 
 fn good(line: &str) -> Option<Call> {
-    list::read(line.as_bytes(), true).unwrap_or_else(|bad| panic!("{line}: {bad}"))
+    read(line).unwrap_or_else(|bad| panic!("{line}: {bad}"))
 }
 
 #[test]
@@ -148,12 +149,72 @@ fn ends() {
 #[test]
 fn no_sequence() {
     for line in ["feed", "check x", " result", "take it"] {
-        let bad = list::read(line.as_bytes(), false).err().expect(line);
+        let bad = list::read(line.as_bytes(), None).err().expect(line);
         assert_eq!((bad.column, bad.reason), (1, Reason::NoSequence));
     }
-    for line in ["dsp", "ack Xi Avr 1", "keepalive", "model", "# feed"] {
-        assert!(list::read(line.as_bytes(), false).is_ok(), "{line}");
+    let begins = ["dsp", "avr", "avr Xi", "pi"];
+    let others = ["ack Xi Avr 1", "keepalive", "model", "# feed"];
+    for line in begins.iter().chain(&others) {
+        assert!(list::read(line.as_bytes(), None).is_ok(), "{line}");
     }
+}
+
+#[test]
+fn not_of_the_sequence() {
+    let refused = |which, line: &str| match list::read(line.as_bytes(), Some(which)) {
+        Ok(_) => panic!("read: {line}"),
+        Err(bad) => assert_eq!(
+            bad.to_string(),
+            "bad line at column 1: not a call of this sequence"
+        ),
+    };
+    for line in ["take", "  take", "take it"] {
+        refused(Which::Avr, line);
+        refused(Which::Pi, line);
+    }
+    for line in ["check 1", "\tcheck", "check x", "check 1 2"] {
+        refused(Which::Pi, line);
+    }
+    for line in ["feed 1 Pi 2 PiStatus", "result"] {
+        assert!(list::read(line.as_bytes(), Some(Which::Pi)).is_ok());
+    }
+    assert!(list::read(b"check 1", Some(Which::Avr)).is_ok());
+}
+
+#[test]
+fn begins() {
+    check("avr Meva", 5, "unknown model");
+    check("avr xi", 5, "unknown model");
+    check("avr Xi Xi", 8, "end of line expected");
+    check("avrs", 1, "unknown call");
+    check("pi Mevo", 4, "end of line expected");
+    check(" Pi", 2, "unknown call");
+    good("avr");
+    good("avr \t");
+    good("avr Mevo");
+    good("pi\r");
+}
+
+#[test]
+fn wall_seconds() {
+    let wall = |words: &str| match good(&format!("feed 1 Avr 2 ModeAck{words}")) {
+        Some(Call::Feed(feed)) => feed.wall,
+        _ => panic!("{words}"),
+    };
+    assert_eq!(wall(""), 0);
+    assert_eq!(wall(" text=41 payload=42"), 0);
+    assert_eq!(wall(" wall=18446744073709551615"), u64::MAX);
+    assert_eq!(wall(" text=\"a\" payload=42 wall=0x10"), 16);
+    check("feed 1 Avr 2 ModeAck wall", 22, "end of line expected");
+    check("feed 1 Avr 2 ModeAck wall=", 27, "not a number");
+    check("feed 1 Avr 2 ModeAck wall= 1", 27, "not a number");
+    check("feed 1 Avr 2 ModeAck wall=-1", 27, "not a number");
+    let large = "feed 1 Avr 2 ModeAck wall=18446744073709551616";
+    check(large, 27, "out of range");
+    let early = "feed 1 Avr 2 ModeAck wall=1 text=41";
+    check(early, 29, "end of line expected");
+    let twice = "feed 1 Avr 2 ModeAck wall=1 wall=1";
+    check(twice, 29, "end of line expected");
 }
 
 #[test]

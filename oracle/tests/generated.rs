@@ -1,8 +1,9 @@
 //! Lists from a seed, and the shrinking of a list.
 
 use oracle::compare::{Source, front_answers, shrink};
+use oracle::coverage::Coverage;
 use oracle::generate::LEANINGS;
-use oracle::list::{self, Call};
+use oracle::list::{self, Call, Which};
 
 #[test]
 fn the_same_seed_gives_the_same_list() {
@@ -20,7 +21,7 @@ fn default_lists_are_comparable() {
         let list = Source::new(3, leaning, false).list(usize::MAX, 5_000);
         assert!(!list.answers.contains("bad line"));
         for line in &list.lines {
-            if let Ok(Some(Call::Feed(feed))) = list::read(line.as_bytes(), true) {
+            if let Ok(Some(Call::Feed(feed))) = list::read(line.as_bytes(), Some(Which::Dsp)) {
                 assert!(std::str::from_utf8(&feed.text).is_ok(), "{line}");
             }
         }
@@ -30,15 +31,32 @@ fn default_lists_are_comparable() {
 
 #[test]
 fn everything_is_met() {
-    let [xi, mevo] = LEANINGS.map(|leaning| {
-        let mut source = Source::new(5, leaning, true);
-        source.list(usize::MAX, 10_000);
-        source.coverage
-    });
-    let mut both = xi;
-    both.add(&mevo);
-    assert_eq!(both.missing(), Vec::<String>::new());
-    assert_eq!(both.missing_reasons(), Vec::<String>::new());
+    for which in Which::ALL {
+        let mut all = Coverage::default();
+        for leaning in LEANINGS.into_iter().filter(|l| l.which == which) {
+            let mut source = Source::new(5, leaning, true);
+            source.list(usize::MAX, 10_000);
+            all.add(&source.coverage);
+        }
+        assert_eq!(all.missing(&[which]), Vec::<String>::new());
+        assert_eq!(all.missing_reasons(&[which]), Vec::<String>::new());
+    }
+}
+
+/// A port that has the DSP alone can be compared, too.
+#[test]
+fn lists_of_the_dsp_have_no_other_words() {
+    for leaning in LEANINGS.into_iter().filter(|l| l.which == Which::Dsp) {
+        let list = Source::new(9, leaning, true).list(usize::MAX, 5_000);
+        let first = |line: &&String| line.split_whitespace().next().unwrap_or("").to_string();
+        assert!(
+            !list
+                .lines
+                .iter()
+                .any(|line| ["avr", "pi"].contains(&&first(&line)[..]))
+        );
+        assert!(!list.lines.iter().any(|line| line.contains(" wall=")));
+    }
 }
 
 #[test]

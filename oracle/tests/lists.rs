@@ -1,23 +1,9 @@
-//! Whole lists. The answers are written by hand from document 01 and
-//! docs/REPLAY.md.
+//! Whole lists of a DSP, and single sends. The answers are written by hand
+//! from document 01 and docs/REPLAY.md.
 
-use oracle::front;
+mod common;
 
-fn answers(list: &str, with_state: bool) -> String {
-    let mut out = Vec::new();
-    front::run(&mut list.as_bytes(), &mut out, with_state).unwrap();
-    String::from_utf8(out).unwrap()
-}
-
-#[track_caller]
-fn check(list: &[&str], expected: &[&str]) {
-    let answers = answers(&list.join("\n"), false);
-    let answers: Vec<&str> = answers.lines().collect();
-    assert_eq!(answers, expected);
-}
-
-const PARAMS: &str = "1,-2,3,4,5,6,7,8,9,10,11,12,13,14,15,16,17,18,19,20,21,22,23,24,25,26,27,28,\
-    29,30,31,32,32767,-32768";
+use common::{PARAMS, check, check_states};
 
 #[test]
 fn xi_with_nothing_answered() {
@@ -216,16 +202,6 @@ fn single_sends() {
             "9: Mevo",
         ],
     );
-}
-
-#[track_caller]
-fn check_states(list: &str, expected: &[&str]) {
-    let answers = answers(list, true);
-    let states: Vec<&str> = answers
-        .lines()
-        .map(|line| line.split_once("; state ").map_or(line, |(_, state)| state))
-        .collect();
-    assert_eq!(states, expected);
 }
 
 const STATUS: &str = "status=V46 state=2 version=0x03 payload=04|.|";

@@ -6,7 +6,6 @@ use device_calls::next::next;
 use dsp::DspFed;
 use dsp::DspSequencer;
 use dsp_steps::DspStep;
-use protocol::Action;
 use protocol::refusal::Outcome;
 use reading::bytes::BYTES;
 use reading::call::Call;
@@ -52,42 +51,25 @@ fn step_of(dsp: DspSequencer) -> DspStep {
     state.step
 }
 
-// What is sent, and the step that is waited at.
-fn sent(out: &mut [u8; OUT], at: usize, action: Action, step: DspStep) -> usize {
-    let mut end = send::send(out, at, action);
-    end = write::text(out, end, b"; ");
-    name(out, end, step)
-}
-
 fn begin(out: &mut [u8; OUT], at: usize) -> Answered {
     let started = DspSequencer::new();
     let action = started.action;
     let dsp = started.seq;
+    let end = send::sent(out, at, action);
     Answered {
         dsp: dsp,
-        at: sent(out, at, action, step_of(dsp)),
+        at: name(out, end, step_of(dsp)),
     }
-}
-
-fn outcome_and_sent(
-    out: &mut [u8; OUT],
-    at: usize,
-    outcome: Outcome,
-    action: Action,
-    step: DspStep,
-) -> usize {
-    let mut end = send::outcome(out, at, outcome);
-    end = write::text(out, end, b"; ");
-    sent(out, end, action, step)
 }
 
 fn fed(out: &mut [u8; OUT], at: usize, fed: DspFed) -> Answered {
     let outcome = fed.outcome;
     let action = fed.action;
     let dsp = fed.seq;
+    let end = send::fed(out, at, outcome, action);
     Answered {
         dsp: dsp,
-        at: outcome_and_sent(out, at, outcome, action, step_of(dsp)),
+        at: name(out, end, step_of(dsp)),
     }
 }
 

@@ -94,7 +94,7 @@ pub fn state(
     let mut end = write::text(out, at, b"; state");
     end = fields::number(out, end, b"last", last);
     end = replies(out, end, stored);
-    end = records::deadline(out, end, deadline);
+    end = records::instant(out, end, b"deadline", deadline);
     end = refused(out, end, nack);
     fields::flagged(
         out,

@@ -14,7 +14,7 @@ use Rattle.device.specs.declared.model.DeviceModel.{DeviceModel}
 use Rattle.device.specs.Model.{hasPowerMode}
 use Rattle.matching.specs.Promise.{Each, clock}
 use Rattle.matching.proofs.Machine.{tickedFrom}
-use Rattle.matching.proofs.Called.{Called}
+use Rattle.matching.proofs.Called.{Called, events-rise}
 use Rattle.sequence.specs.Accepted.{none, feedRefusals, checkRefusals, feedOutcome, checkOutcome}
 use Rattle.sequence.specs.Events.{Envelope, Event, fed, checked, reading}
 use Rattle.sequence.specs.Rows.{State}
@@ -125,7 +125,7 @@ module _ (m : DeviceModel) where
   one es t x (ask take-refused) = refl
 
   pub sequencer : Called reading (table m) (afterFor m) event stateOf extra
-  sequencer = record { rises = rises (λ e. e); one = λ es t x c h. one es t x c }
+  sequencer = record { rises = events-rise reading event (rises (λ e. e)) 0; one = λ es t x c h. one es t x c }
 
   -- Done is none of the table's steps
   pub others : Each (λ k. isDone k ≡ false) (stepsFor m)

@@ -14,8 +14,9 @@ use Rattle.device.specs.Model.{modelOf, hasPowerMode}
 use Rattle.matching.specs.Promise.{Each, Ends, Answers, run}
 use Rattle.sequence.specs.Events.{Envelope, Event, fed, checked, reading}
 use Rattle.sequence.specs.Calls.{ask}
+use Rattle.sequence.specs.Replies.{devInfoIn, configIn}
 use Rattle.dsp_steps.specs.declared.DspStep.{DspStep}
-use Rattle.dsp_steps.specs.Stores.{fromDsp, statusIn, hwInfoIn, devInfoIn, prodInfoIn, configIn, nackIn, unansweredIn, noHwInfo}
+use Rattle.dsp_steps.specs.Stores.{fromDsp, statusIn, hwInfoIn, prodInfoIn, nackIn, unansweredIn, noHwInfo}
 use Rattle.dsp_steps.specs.Table.{table}
 use Rattle.dsp.specs.declared.DspSync.{DspSync}
 use Rattle.dsp.specs.declared.DspSequencer.{DspSequencer}
@@ -28,9 +29,9 @@ resultOf m at = record {
   status = statusIn (at 1) .value;
   «status_payload» = statusIn (at 1) .payload;
   «hw_info» = hwInfoIn (at 2) noHwInfo;
-  «dev_info» = devInfoIn (at 3) .value;
+  «dev_info» = devInfoIn (λ v. v) (at 3) .value;
   «prod_info» = prodInfoIn (at 4) ∷ prodInfoIn (at 5) ∷ prodInfoIn (at 6) ∷ [];
-  config = configIn (at 7) .value;
+  config = configIn (λ v. v) (at 7) .value;
   model = m;
   «power_mode_unanswered» = hasPowerMode m && unansweredIn (at 8) false;
 }

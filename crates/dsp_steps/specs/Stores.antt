@@ -12,8 +12,6 @@ use Rattle.protocol.specs.declared.status.DspStatus.{DspStatus}
 use Rattle.protocol.specs.declared.status.DspStatus.the-variants.{V80, V46}
 use Rattle.protocol.specs.declared.status.OptionNack.{OptionNack}
 use Rattle.protocol.specs.declared.config.ParamData.{ParamData}
-use Rattle.protocol.specs.declared.config.OptionConfigResp.{OptionConfigResp}
-use Rattle.protocol.specs.declared.handshake.OptionDevInfoResp.{OptionDevInfoResp}
 use Rattle.protocol.specs.declared.handshake.ProdInfoResp.{ProdInfoResp}
 use Rattle.protocol.specs.declared.Command.{Command}
 use Rattle.protocol.specs.declared.Action.{Action}
@@ -22,6 +20,7 @@ use Rattle.protocol.specs.Carried.{noNack, noQueryResp, noDspStatus, carried}
 use Rattle.protocol.specs.Kinds.{configNack, dspQueryResp}
 use Rattle.protocol.specs.Stored.{stored}
 use Rattle.sequence.specs.Events.{Envelope, Event, fed, checked, kind}
+use Rattle.sequence.specs.Replies.{noDevInfo, noConfig, devInfoIn, configIn}
 use Rattle.dsp_steps.specs.declared.OptionDspStatus.{OptionDspStatus}
 use Rattle.dsp_steps.specs.declared.OptionDspQueryResp.{OptionDspQueryResp}
 use Rattle.dsp_steps.specs.declared.DspReplies.{DspReplies}
@@ -34,14 +33,8 @@ noStatus = record { some = false; value = noDspStatus; payload = stored [] }
 abbrev pub noHwInfo : OptionDspQueryResp
 noHwInfo = record { some = false; value = noQueryResp }
 
-abbrev pub noDevInfo : OptionDevInfoResp
-noDevInfo = record { some = false; value = record { text = stored []; payload = stored [] } }
-
 abbrev pub noProdInfo : ProdInfoResp
 noProdInfo = record { text = stored [] }
-
-abbrev pub noConfig : OptionConfigResp
-noConfig = record { some = false; value = record { params = replicate 34 (ℤ.pos 0) } }
 
 abbrev pub noReplies : DspReplies
 noReplies = record {
@@ -74,17 +67,9 @@ abbrev pub hwInfoIn : Event Envelope → OptionDspQueryResp → OptionDspQueryRe
 hwInfoIn (fed e t) h = cond (fromDsp dspQueryResp e) (record { some = true; value = carried (e .message) .query }) h
 hwInfoIn (checked t) h = h
 
-abbrev pub devInfoIn : Event Envelope → OptionDevInfoResp
-devInfoIn (fed e t) = record { some = true; value = record { text = stored (e .text); payload = stored (e .payload) } }
-devInfoIn (checked t) = noDevInfo
-
 abbrev pub prodInfoIn : Event Envelope → ProdInfoResp
 prodInfoIn (fed e t) = record { text = stored (e .text) }
 prodInfoIn (checked t) = noProdInfo
-
-abbrev pub configIn : Event Envelope → OptionConfigResp
-configIn (fed e t) = record { some = true; value = record { params = e .params } }
-configIn (checked t) = noConfig
 
 -- a nack is kept; else what was kept stays
 abbrev pub nackIn : Event Envelope → OptionNack → OptionNack
@@ -101,9 +86,9 @@ abbrev pub store : ℕ → Event Envelope → DspReplies → DspReplies
 store k e y = record {
   status = cond (eqb k 1) (statusIn e) (y .status);
   «hw_info» = cond (eqb k 2) (hwInfoIn e (y .«hw_info»)) (y .«hw_info»);
-  «dev_info» = cond (eqb k 3) (devInfoIn e) (y .«dev_info»);
+  «dev_info» = cond (eqb k 3) (devInfoIn (λ v. v) e) (y .«dev_info»);
   «prod_info» = cond (eqb k 4 || eqb k 5 || eqb k 6) (set (y .«prod_info») (k - 4) (prodInfoIn e)) (y .«prod_info»);
-  config = cond (eqb k 7) (configIn e) (y .config);
+  config = cond (eqb k 7) (configIn (λ v. v) e) (y .config);
   refused = cond (eqb k 8) (nackIn e (y .refused)) (y .refused);
   «power_mode_unanswered» = cond (eqb k 8) (unansweredIn e (y .«power_mode_unanswered»)) (y .«power_mode_unanswered»);
 }

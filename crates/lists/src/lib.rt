@@ -24,6 +24,8 @@ fn run(
 ) -> Turn {
     match sequence {
         Sequence::Dsp => dsp_calls::run(stream, input, line, values, bytes, out),
+        Sequence::Avr(model) => { avr_calls::run(model, stream, input, line, values, bytes, out) }
+        Sequence::Pi => pi_calls::run(stream, input, line, values, bytes, out),
     }
 }
 

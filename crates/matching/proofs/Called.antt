@@ -101,14 +101,14 @@ module _ {E C : Type 0} (at : E → ℕ) (event : ℕ → C → List E) where
 -- call moves these three as it should.
 pub record Called {E S C X : Type 0} (at : E → ℕ) (T : Table E) (after : S → C → S) (event : ℕ → C → List E) (stateOf : List E → ℕ → X → S)
     (extra : List E → ℕ → X → C → X) : Type 0 where
-  pub rises : (t : ℕ) (c : C) → Rising at t (event t c)
+  pub rises : (cs : List C) → Rising at 0 (events at event 0 cs)
   pub one : (es : List E) (t : ℕ) (x : X) (c : C) → length es ≤ length T
       → after (stateOf es t x) c ≡ stateOf (tickedFrom at T es (event t c)) (clock at t (event t c)) (extra es t x c)
 
 module _ {E S C X : Type 0} {at : E → ℕ} {T : Table E} {after : S → C → S} {event : ℕ → C → List E} {stateOf : List E → ℕ → X → S}
     {extra : List E → ℕ → X → C → X} (m : Called at T after event stateOf extra) where
   pub run-rises : (cs : List C) → Rising at 0 (events at event 0 cs)
-  run-rises cs = events-rise at event (m .rises) 0 cs
+  run-rises cs = m .rises cs
 
   called-from : (es : List E) (t : ℕ) (x : X) (cs : List C) → length es ≤ length T
       → afterAll after (stateOf es t x) cs

@@ -15,7 +15,7 @@ use Rattle.matching.proofs.Entries.{antitone-event, antitone-after, ant
 use Rattle.matching.proofs.Embeds.{length-snoc, reading-snoc}
 use Rattle.matching.proofs.Leftmost.{leftmost-earliest}
 use Rattle.matching.proofs.Ticked.{ticked-all}
-use Rattle.matching.proofs.Called.{Called, called, run-rises}
+use Rattle.matching.proofs.Called.{Called, called, run-rises, events-rise}
 
 -- what happened, and when, in nanoseconds
 pub record Event : Type 0 where
@@ -97,7 +97,7 @@ hears es t x e = rw (test-table (length es) (readingOf at es) e) (go (ticks at t
     go false = refl
 
 sequencer : Called at table after event stateOf count
-sequencer = record { rises = rises; one = λ es t x c h. one es t x c }
+sequencer = record { rises = events-rise at event rises 0; one = λ es t x c h. one es t x c }
   where
     rises : (t : ℕ) (c : Call) → Rising at t (event t c)
     rises t ask = end

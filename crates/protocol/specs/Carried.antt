@@ -1,11 +1,14 @@
 -- What a message carries, by kind. Definitions only.
 -- Assumes nothing.
 use mathlib.Core.Bool.{false}
+use lib.Ieee.{binary64, ofBits}
 use lib.IntN.{ℤ}
 use Rattle.protocol.specs.declared.addr.BusAddr.{BusAddr}
+use Rattle.protocol.specs.declared.camera.CamConfig.{CamConfig}
 use Rattle.protocol.specs.declared.status.ConfigAck.{ConfigAck}
 use Rattle.protocol.specs.declared.status.OptionNack.{OptionNack}
 use Rattle.protocol.specs.declared.status.DspStatus.{DspStatus}
+use Rattle.protocol.specs.declared.status.AvrStatus.{AvrStatus}
 use Rattle.protocol.specs.declared.handshake.DspQueryResp.{DspQueryResp}
 use Rattle.protocol.specs.declared.Message.{Message}
 use Rattle.protocol.specs.declared.Message.the-variants as Msg
@@ -33,21 +36,65 @@ noDspStatus = DspStatus.V80 (record {
   «external_power» = false;
 })
 
+abbrev pub noAvrStatus : AvrStatus
+noAvrStatus = record {
+  version = 0;
+  state = 0;
+  «hw_id_hi» = 0;
+  «hw_id_lo» = 0;
+  «full_app_id» = ℤ.pos 0;
+  temperature = ofBits binary64 0;
+  tilt = ofBits binary64 0;
+  roll = ofBits binary64 0;
+}
+
+abbrev pub noCamConfig : CamConfig
+noCamConfig = record {
+  «dynamic_config» = false;
+  «resolution_width» = ℤ.pos 0;
+  «resolution_height» = ℤ.pos 0;
+  rotation = ℤ.pos 0;
+  ev = ℤ.pos 0;
+  quality = 0;
+  framerate = 0;
+  «streaming_framerate» = 0;
+  «ringbuffer_pretime_ms» = ℤ.pos 0;
+  «ringbuffer_posttime_ms» = ℤ.pos 0;
+  «raw_camera_mode» = 0;
+  «fusion_camera_mode» = false;
+  «raw_shutter_speed_max» = ofBits binary64 0;
+  «raw_ev_roi_x» = ℤ.pos 0;
+  «raw_ev_roi_y» = ℤ.pos 0;
+  «raw_ev_roi_width» = ℤ.pos 0;
+  «raw_ev_roi_height» = ℤ.pos 0;
+  «raw_x_offset» = ℤ.pos 0;
+  «raw_bin44» = false;
+  «raw_live_preview_write_interval_ms» = ℤ.pos 0;
+  «raw_y_offset» = ℤ.pos 0;
+  «buffer_sub_sampling_pre_trigger_div» = ℤ.pos 0;
+  «buffer_sub_sampling_post_trigger_div» = ℤ.pos 0;
+  «buffer_sub_sampling_switch_time_offset» = ofBits binary64 0;
+  «buffer_sub_sampling_total_buffer_size» = ℤ.pos 0;
+  «buffer_sub_sampling_pre_trigger_buffer_size» = ℤ.pos 0;
+}
+
 -- the structs of the kinds, those of other kinds absent
 pub record Carried : Type 0 where
   pub status : DspStatus
+  pub avr : AvrStatus
   pub query : DspQueryResp
   pub ack : ConfigAck
+  pub cam : CamConfig
 
 abbrev pub nothing : Carried
-nothing = record { status = noDspStatus; query = noQueryResp; ack = noAck }
+nothing = record { status = noDspStatus; avr = noAvrStatus; query = noQueryResp; ack = noAck; cam = noCamConfig }
 
 abbrev pub acked : ConfigAck → Carried
-acked a = record { status = noDspStatus; query = noQueryResp; ack = a }
+acked a = record { status = noDspStatus; avr = noAvrStatus; query = noQueryResp; ack = a; cam = noCamConfig }
 
 abbrev pub carried : Message → Carried
-carried (Msg.AvrStatus s) = nothing
-carried (Msg.DspStatus s) = record { status = s; query = noQueryResp; ack = noAck }
+carried (Msg.AvrStatus s) = record { status = noDspStatus; avr = s; query = noQueryResp; ack = noAck; cam = noCamConfig }
+carried (Msg.DspStatus s) = record { status = s; avr = noAvrStatus; query = noQueryResp; ack = noAck; cam = noCamConfig }
 carried Msg.PiStatus = nothing
 carried (Msg.ConfigAck a) = acked a
 carried (Msg.ConfigNack a) = acked a
@@ -58,12 +105,12 @@ carried (Msg.ParamValue p) = nothing
 carried (Msg.RadarCal c) = nothing
 carried Msg.ConfigResp = nothing
 carried Msg.AvrConfigResp = nothing
-carried (Msg.DspQueryResp r) = record { status = noDspStatus; query = r; ack = noAck }
+carried (Msg.DspQueryResp r) = record { status = noDspStatus; avr = noAvrStatus; query = r; ack = noAck; cam = noCamConfig }
 carried Msg.DevInfoResp = nothing
 carried Msg.ProdInfoResp = nothing
 carried Msg.NetConfigResp = nothing
 carried Msg.CalParamResp = nothing
 carried Msg.CalDataResp = nothing
 carried (Msg.TimeSync t) = nothing
-carried (Msg.CamConfig c) = nothing
+carried (Msg.CamConfig c) = record { status = noDspStatus; avr = noAvrStatus; query = noQueryResp; ack = noAck; cam = c }
 carried Msg.Other = nothing

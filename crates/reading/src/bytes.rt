@@ -152,13 +152,9 @@ impl Cursor {
 
     // The bytes of a field that may be left out.
     pub fn lent(self, line: &[u8], name: &[u8], bytes: &mut [u8; BYTES], at: usize) -> Bytes {
-        if self.bad() {
-            return Bytes { c: self, end: at };
+        if self.has(line, name) {
+            return self.past(line, name).bytes(line, bytes, at);
         }
-        if !self.next_is(line, name) {
-            return Bytes { c: self, end: at };
-        }
-        let start = std::num::wrapping_add_usize(skip(line, self.at, true), name.len());
-        self.to(start).bytes(line, bytes, at)
+        Bytes { c: self, end: at }
     }
 }

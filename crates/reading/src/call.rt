@@ -18,6 +18,8 @@ pub const LINE: usize = 65_536;
 
 pub enum Sequence {
     Dsp,
+    Avr(DeviceModel),
+    Pi,
 }
 
 // The calls that a sequence has. Each has `feed`, and none has begun before the first.
@@ -37,6 +39,8 @@ pub struct Feed {
     pub kind: usize,
     pub text: usize,
     pub payload: usize,
+    // the wall clock's seconds
+    pub wall: u64,
 }
 
 // A call that no sequence is needed for.
@@ -121,6 +125,10 @@ impl Cursor {
         }
     }
 
+    fn begins(self, sequence: Sequence) -> Read {
+        self.with_call(Call::Begin(sequence))
+    }
+
     fn with_model(self, model: DeviceModel) -> Model {
         Model {
             c: self,
@@ -173,6 +181,8 @@ impl Cursor {
         let c = text.c;
         let payload = c.lent(line, b"payload=", bytes, text.end);
         let c = payload.c;
+        let wall = c.given(line, b"wall=");
+        let c = wall.c;
         c.with_call(Call::Feed(Feed {
             now: now.value,
             src: src,
@@ -180,6 +190,7 @@ impl Cursor {
             kind: kind.kind,
             text: text.end,
             payload: payload.end,
+            wall: wall.value,
         }))
     }
 
@@ -212,6 +223,17 @@ impl Cursor {
         c.with_call(Call::Device(DeviceCall::KeepaliveFor(model)))
     }
 
+    fn avr(self, line: &[u8]) -> Read {
+        let word = self.word(line);
+        if word.from == word.to {
+            return self.begins(Sequence::Avr(DeviceModel::Mevo));
+        }
+        let named = self.model(line);
+        let c = named.c;
+        let model = named.model;
+        c.begins(Sequence::Avr(model))
+    }
+
     fn model_of(self, line: &[u8], bytes: &mut [u8; BYTES]) -> Read {
         let word = self.word(line);
         let c = self.to(word.from);
@@ -242,7 +264,9 @@ impl Cursor {
             4 => self.ack(line),
             5 => self.keepalive(line),
             6 => self.model_of(line, bytes),
-            7 => self.with_call(Call::Begin(Sequence::Dsp)),
+            7 => self.begins(Sequence::Dsp),
+            8 => self.avr(line),
+            9 => self.begins(Sequence::Pi),
             _ => self.fail(from, reasons::UNKNOWN_CALL).with_call(Call::None),
         }
     }
@@ -272,7 +296,7 @@ fn call_name(line: &[u8], word: Span) -> usize {
     choice(
         line,
         word,
-        b"feed check result take ack keepalive model dsp",
+        b"feed check result take ack keepalive model dsp avr pi",
         b' ',
     )
 }

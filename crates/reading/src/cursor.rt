@@ -102,6 +102,20 @@ impl Cursor {
         starts(line, skip(line, self.at, true), name)
     }
 
+    // Whether these bytes, of a field that may be left out, stand next.
+    pub fn has(self, line: &[u8], name: &[u8]) -> bool {
+        if self.bad() {
+            return false;
+        }
+        self.next_is(line, name)
+    }
+
+    // Behind these bytes, which stand next.
+    pub fn past(self, line: &[u8], name: &[u8]) -> Cursor {
+        let at = skip(line, self.at, true);
+        self.to(std::num::wrapping_add_usize(at, name.len()))
+    }
+
     // Moves past the `NAME=` that stands at `from` of the names, and has to stand next.
     pub fn name(self, line: &[u8], names: &[u8], from: usize) -> Cursor {
         if self.bad() {

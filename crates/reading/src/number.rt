@@ -27,6 +27,13 @@ pub struct Number {
     pub value: u64,
 }
 
+fn unsigned(most: u64) -> Limit {
+    Limit {
+        most: most,
+        signed: false,
+    }
+}
+
 // A digit's value, or 16 where it is none.
 pub fn digit(b: u8) -> u8 {
     match b {
@@ -150,11 +157,7 @@ impl Cursor {
         if self.bad() {
             return Number { c: self, value: 0 };
         }
-        let limit = Limit {
-            most: most,
-            signed: false,
-        };
-        self.number_in(line, self.word(line), limit)
+        self.number_in(line, self.word(line), unsigned(most))
     }
 
     // A number that begins here.
@@ -164,6 +167,15 @@ impl Cursor {
             to: to,
         };
         self.number_in(line, span, limit)
+    }
+
+    // The number of a field that may be left out, which is 0 then.
+    pub fn given(self, line: &[u8], name: &[u8]) -> Number {
+        if self.has(line, name) {
+            let c = self.past(line, name);
+            return c.number_in(line, c.value(line), unsigned(u64::MAX));
+        }
+        Number { c: self, value: 0 }
     }
 
     pub fn boolean(self, line: &[u8]) -> Number {

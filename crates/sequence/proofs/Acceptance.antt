@@ -1,14 +1,15 @@
 -- A call is accepted exactly where no number applies; and what an accepted call tells of its reading and its bytes.
 -- Assumes nothing.
-use mathlib.Core.Path.{_≡_, refl, sym}
+use mathlib.Core.Path.{_≡_, refl, sym, ap}
 use mathlib.Core.Bool.{Bool, true, false, not, _&&_, true≢false}
-use mathlib.Core.List.{List, [], _∷_}
+use mathlib.Core.List.{List, [], _∷_, _++_}
 use Prim.Native.Nat.{ℕ, _≤_, _<_}
 use native.Mathlib.Omega.{arith}
 use lib.Dec.{ltb}
 use lib.ListN.{length}
 use borrow.Author.Tests.{ltb-false}
 use Rattle.protocol.specs.Refusals.{Applies, outcome, lowest}
+use Rattle.protocol.specs.declared.refusal.Refusal.{Refusal}
 use Rattle.protocol.specs.declared.refusal.Outcome.{Outcome}
 use Rattle.protocol.specs.declared.refusal.Outcome.the-variants.{Accepted, Refused}
 use Rattle.protocol.proofs.Numbers.{Rises, end, then, Listed, lowest-least}
@@ -38,6 +39,26 @@ feed-accepted x y last t = feed-numbers (ltb 256 (length x)) (ltb 256 (length y)
 
 pub bytes-accepted : (x y : List ℕ) → accepted (outcome (lowest (bytesRefusals x y))) ≡ none (bytesRefusals x y)
 bytes-accepted x y = feed-numbers (ltb 256 (length x)) (ltb 256 (length y)) [] refl
+
+-- ---- the bytes are judged first
+
+pub bytes-first : (x y : List ℕ) (l : List Applies) (r : Refusal) → outcome (lowest (bytesRefusals x y)) ≡ Refused r
+    → outcome (lowest (bytesRefusals x y ++ l)) ≡ Refused r
+bytes-first x y l r h = go (ltb 256 (length x)) (ltb 256 (length y)) h
+  where
+    go : (a b : Bool) → outcome (lowest (applies 1 a ∷ applies 2 b ∷ [])) ≡ Refused r → outcome (lowest (applies 1 a ∷ applies 2 b ∷ l)) ≡ Refused r
+    go true b k = k
+    go false true k = k
+    go false false k = absurd (true≢false (ap accepted k))
+
+pub bytes-pass : (x y : List ℕ) (l : List Applies) → outcome (lowest (bytesRefusals x y)) ≡ Accepted
+    → outcome (lowest (bytesRefusals x y ++ l)) ≡ outcome (lowest l)
+bytes-pass x y l h = go (ltb 256 (length x)) (ltb 256 (length y)) h
+  where
+    go : (a b : Bool) → outcome (lowest (applies 1 a ∷ applies 2 b ∷ [])) ≡ Accepted → outcome (lowest (applies 1 a ∷ applies 2 b ∷ l)) ≡ outcome (lowest l)
+    go true b k = absurd (true≢false (sym (ap accepted k)))
+    go false true k = absurd (true≢false (sym (ap accepted k)))
+    go false false k = refl
 
 -- ---- what none says
 

@@ -27,7 +27,10 @@ feedRefusals text payload last reading = bytesRefusals text payload ++ checkRefu
 abbrev pub resultRefusals : Bool → List Applies
 resultRefusals done = applies 12 (not done) ∷ []
 
--- the outcome of a feed, of a check: the lowest number that applies, or accepted
+-- the outcome of a feed, without and with a clock, and of a check: the lowest number that applies, or accepted
+abbrev pub bytesOutcome : List ℕ → List ℕ → Outcome
+bytesOutcome text payload = outcome (lowest (bytesRefusals text payload))
+
 abbrev pub feedOutcome : List ℕ → List ℕ → ℕ → ℕ → Outcome
 feedOutcome text payload last reading = outcome (lowest (feedRefusals text payload last reading))
 

@@ -2,3 +2,4 @@ pub mod Events
 pub mod Accepted
 pub mod Calls
 pub mod Rows
+pub mod Replies

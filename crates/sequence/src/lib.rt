@@ -1,7 +1,7 @@
 // What the sequences have in common: which calls are accepted, and deadlines.
 ghost use mathlib.Core.Path.{_≡_};
 ghost use Rattle.protocol.specs.Refusals.{outcome, lowest};
-ghost use Rattle.sequence.specs.Accepted.{feedRefusals, checkRefusals};
+ghost use Rattle.sequence.specs.Accepted.{bytesRefusals, feedRefusals, checkRefusals};
 ghost use Rattle.sequence.specs.Rows.{noDeadline, deadlineAt};
 ghost use denote.Ref.{now as held};
 use protocol::refusal::Outcome;
@@ -44,15 +44,26 @@ impl OptionInstant {
     }
 }
 
-// Whether a feed is accepted, `last` being the last accepted reading.
-pub fn accept_feed(text: &[u8], payload: &[u8], last: u64, now: u64) -> Outcome
-    ensures { λ r. ⌜ r ≡ outcome (lowest (feedRefusals (held (text .entry)) (held (payload .entry)) last now)) ⌝ }
+// Whether a feed of a sequence without a clock is accepted.
+pub fn accept_bytes(text: &[u8], payload: &[u8]) -> Outcome
+    ensures { λ r. ⌜ r ≡ outcome (lowest (bytesRefusals (held (text .entry)) (held (payload .entry)))) ⌝ }
 {
     if MAX_LEN < text.len() {
         return Outcome::Refused(Refusal::TextTooLong);
     }
     if MAX_LEN < payload.len() {
         return Outcome::Refused(Refusal::PayloadTooLong);
+    }
+    Outcome::Accepted
+}
+
+// Whether a feed is accepted, `last` being the last accepted reading.
+pub fn accept_feed(text: &[u8], payload: &[u8], last: u64, now: u64) -> Outcome
+    ensures { λ r. ⌜ r ≡ outcome (lowest (feedRefusals (held (text .entry)) (held (payload .entry)) last now)) ⌝ }
+{
+    let bytes = accept_bytes(text, payload);
+    if let Outcome::Refused(_) = bytes {
+        return bytes;
     }
     accept_check(last, now)
 }

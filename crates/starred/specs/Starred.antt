@@ -2,6 +2,7 @@
 -- says. Proved as a whole.
 -- Assumes nothing.
 use mathlib.Core.Path.{_≡_, refl}
+use mathlib.Core.Bool.{false}
 use mathlib.Core.List.{List, [], _∷_, map}
 use Prim.Native.Nat.{ℕ}
 use Rattle.protocol.specs.declared.addr.BusAddr.{BusAddr}
@@ -9,11 +10,17 @@ use Rattle.protocol.specs.declared.status.DspStatus.{DspStatus}
 use Rattle.protocol.specs.declared.Command.{Command}
 use Rattle.protocol.specs.declared.Message.{Message}
 use Rattle.protocol.specs.declared.Action.{Action}
+use Rattle.protocol.specs.declared.stored.Stored.{Stored}
+use Rattle.protocol.specs.Stored.{stored}
 use Rattle.protocol.specs.Action.{noAction, sendTo}
 use Rattle.device.specs.declared.model.DeviceModel.{DeviceModel}
 use Rattle.device.specs.Model.{modelOf}
 use Rattle.device.specs.Sends.{resultAck}
-use Rattle.sequence.specs.Events.{Envelope}
+use Rattle.sequence.specs.Events.{Envelope, Event, fed}
+use Rattle.avr_steps.specs.Stores.{Dated}
+use Rattle.avr.specs.declared.AvrSequencer.{AvrSequencer}
+use Rattle.avr.specs.Answers as avr
+use Rattle.pi.specs.Stores.{ssidIn, passwordIn}
 use Rattle.dsp.specs.declared.DspSequencer.{DspSequencer}
 use Rattle.dsp.specs.Answers.{begun, fedTo, polled}
 
@@ -21,6 +28,7 @@ use Rattle.dsp.specs.Answers.{begun, fedTo, polled}
 pub data Answer : Type 0 where
   model : DeviceModel → Answer
   action : Action → Answer
+  bytes : Stored → Answer
 
 pub record Trial : Type 0 where
   pub answered : Answer
@@ -47,6 +55,27 @@ dspStatus = record {
 abbrev waiting : DspSequencer
 waiting = fedTo (begun .seq) dspStatus 5_000_000_000 .seq
 
+-- a status poll refused by the Avr, and a Mevo's start-up after it was twice, at 1,000,000,000 and 1,500,000,000 ns
+abbrev nack : Dated
+nack = record {
+  envelope = record {
+    src = BusAddr.Avr;
+    type-id = 0x94;
+    message = Message.ConfigNack (record { «bus_addr» = 0x30; «acked_cmd» = 0x2A });
+    params = [];
+    text = [];
+    payload = [];
+  };
+  wall = 0;
+}
+
+abbrev refused : AvrSequencer
+refused = avr.fedTo (avr.fedTo (avr.begun DeviceModel.Mevo .seq) nack 1_000_000_000 .seq) nack 1_500_000_000 .seq
+
+-- a network text
+abbrev network : List ℕ → Event Envelope
+network text = fed (record { src = BusAddr.Pi; type-id = 0xDE; message = Message.NetConfigResp; params = []; text = text; payload = [] }) 0
+
 abbrev pub starred : List Trial
 starred =
     -- payload "FS Xi": Xi
@@ -66,6 +95,16 @@ starred =
     trial (action (polled waiting 6_999_999_999 .action)) (action noAction) ∷
     -- at 7,000,000,000: DevInfoReq
     trial (action (polled (polled waiting 6_999_999_999 .seq) 7_000_000_000 .action)) (action (sendTo BusAddr.Dsp Command.DevInfoReq)) ∷
+    -- AVR nacks 0x2A at 1,000,000,000 and 1,500,000,000; check at 2,000,000,000: one poll
+    trial (action (avr.polled refused 2_000_000_000 .action)) (action (sendTo BusAddr.Avr (Command.StatusPoll (record { «pi_mode» = false })))) ∷
+    -- again: nothing
+    trial (action (avr.polled (avr.polled refused 2_000_000_000 .seq) 2_000_000_000 .action)) (action noAction) ∷
+    -- network text a,0,b,0,c: ssid a; password b,0,c
+    trial (bytes (ssidIn (network (97 ∷ 0 ∷ 98 ∷ 0 ∷ 99 ∷ [])))) (bytes (stored (97 ∷ []))) ∷
+    trial (bytes (passwordIn (network (97 ∷ 0 ∷ 98 ∷ 0 ∷ 99 ∷ [])))) (bytes (stored (98 ∷ 0 ∷ 99 ∷ []))) ∷
+    -- "range": ssid range, password empty
+    trial (bytes (ssidIn (network (114 ∷ 97 ∷ 110 ∷ 103 ∷ 101 ∷ [])))) (bytes (stored (114 ∷ 97 ∷ 110 ∷ 103 ∷ 101 ∷ []))) ∷
+    trial (bytes (passwordIn (network (114 ∷ 97 ∷ 110 ∷ 103 ∷ 101 ∷ [])))) (bytes (stored [])) ∷
     []
 
 pub starred-right : map (λ t. t .answered) starred ≡ map (λ t. t .said) starred

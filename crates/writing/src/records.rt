@@ -132,9 +132,9 @@ pub fn optional_config(out: &mut [u8; OUT], at: usize, numbers: OptionConfigResp
     fields::none(out, at, b"params")
 }
 
-pub fn deadline(out: &mut [u8; OUT], at: usize, deadline: OptionInstant) -> usize {
-    if deadline.some {
-        return fields::number(out, at, b"deadline", deadline.value);
+pub fn instant(out: &mut [u8; OUT], at: usize, field: &[u8], instant: OptionInstant) -> usize {
+    if instant.some {
+        return fields::number(out, at, field, instant.value);
     }
-    fields::none(out, at, b"deadline")
+    fields::none(out, at, field)
 }

@@ -133,3 +133,16 @@ pub fn outcome(out: &mut [u8; OUT], at: usize, outcome: Outcome) -> usize {
         }
     }
 }
+
+// What is sent. The step that is waited at goes behind it.
+pub fn sent(out: &mut [u8; OUT], at: usize, action: Action) -> usize {
+    let end = send(out, at, action);
+    write::text(out, end, b"; ")
+}
+
+// Whether a call was accepted, and what it sends. The step goes behind it.
+pub fn fed(out: &mut [u8; OUT], at: usize, answer: Outcome, action: Action) -> usize {
+    let mut end = outcome(out, at, answer);
+    end = write::text(out, end, b"; ");
+    sent(out, end, action)
+}

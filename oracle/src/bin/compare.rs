@@ -1,5 +1,5 @@
-//! compare N [SEED] --replay PATH [--bad]: runs N calls of each sequence
-//! and model through the Rust and through the program at PATH.
+//! compare N [SEED] --replay PATH [--only SEQUENCE] [--bad]: runs N calls of
+//! each sequence and model through the Rust and through the program at PATH.
 
 use std::io;
 use std::process::ExitCode;
@@ -8,13 +8,15 @@ use std::time::{SystemTime, UNIX_EPOCH};
 use oracle::compare::{Difference, LIST_LINES, Program, Source};
 use oracle::coverage::Coverage;
 use oracle::generate::{LEANINGS, Leaning};
+use oracle::list::Which;
 
-const USAGE: &str = "usage: compare N [SEED] --replay PATH [--bad]";
+const USAGE: &str = "usage: compare N [SEED] --replay PATH [--only dsp|avr|pi] [--bad]";
 
 struct Task {
     calls: u64,
     seed: u64,
     bad: bool,
+    of: Vec<Which>,
     program: Program,
 }
 
@@ -25,7 +27,8 @@ fn main() -> ExitCode {
     };
     println!("seed {}", task.seed);
     let mut coverage = Coverage::default();
-    for leaning in LEANINGS {
+    let asked = |leaning: &Leaning| task.of.contains(&leaning.which);
+    for leaning in LEANINGS.into_iter().filter(asked) {
         match compare(&task, leaning) {
             Ok(Ok(counted)) => coverage.add(&counted),
             Ok(Err((list, difference))) => return differs(&list, &difference),
@@ -36,9 +39,9 @@ fn main() -> ExitCode {
         }
     }
     println!("seed {}: no difference\n\n{coverage}", task.seed);
-    let mut missing = coverage.missing();
+    let mut missing = coverage.missing(&task.of);
     if task.bad {
-        missing.extend(coverage.missing_reasons());
+        missing.extend(coverage.missing_reasons(&task.of));
     }
     for what in &missing {
         println!("never met: {what}");
@@ -48,10 +51,12 @@ fn main() -> ExitCode {
 
 fn task() -> Option<Task> {
     let (mut numbers, mut path, mut bad) = (Vec::new(), None, false);
+    let mut of = Which::ALL.to_vec();
     let mut args = std::env::args_os().skip(1);
     while let Some(arg) = args.next() {
         match arg.to_str()? {
             "--replay" => path = Some(args.next()?),
+            "--only" => of = vec![Which::of_word(args.next()?.to_str()?)?],
             "--bad" => bad = true,
             number => numbers.push(number.parse().ok()?),
         }
@@ -65,6 +70,7 @@ fn task() -> Option<Task> {
         calls,
         seed,
         bad,
+        of,
         program: Program { path: path? },
     })
 }

@@ -1,17 +1,20 @@
-//! generate N [SEED] [--mevo] [--bad]: writes a list of N calls.
+//! generate N [SEED] [--only SEQUENCE] [--mevo] [--bad]: writes a list of N
+//! calls, of a DSP if nothing else is said.
 
 use std::io::{self, Write};
 use std::process::ExitCode;
 
 use oracle::compare::{LIST_LINES, Source, as_text};
-use oracle::generate::LEANINGS;
+use oracle::generate::Leaning;
+use oracle::list::Which;
+use oracle::protocol::handshake::DeviceModel;
 
-const USAGE: &str = "usage: generate N [SEED] [--mevo] [--bad]";
+const USAGE: &str = "usage: generate N [SEED] [--only dsp|avr|pi] [--mevo] [--bad]";
 
 struct Task {
     calls: u64,
     seed: u64,
-    mevo: bool,
+    leaning: Leaning,
     bad: bool,
 }
 
@@ -20,8 +23,7 @@ fn main() -> ExitCode {
         eprintln!("{USAGE}");
         return ExitCode::from(2);
     };
-    let leaning = LEANINGS[usize::from(task.mevo)];
-    let mut source = Source::new(task.seed, leaning, task.bad);
+    let mut source = Source::new(task.seed, task.leaning, task.bad);
     while source.coverage.calls < task.calls {
         let list = source.list(LIST_LINES, task.calls - source.coverage.calls);
         let text = as_text(&list.lines);
@@ -33,10 +35,12 @@ fn main() -> ExitCode {
 }
 
 fn task() -> Option<Task> {
-    let (mut mevo, mut bad) = (false, false);
+    let (mut which, mut mevo, mut bad) = (Which::Dsp, false, false);
     let mut numbers: Vec<u64> = Vec::new();
-    for arg in std::env::args().skip(1) {
+    let mut args = std::env::args().skip(1);
+    while let Some(arg) = args.next() {
         match arg.as_str() {
+            "--only" => which = Which::of_word(&args.next()?)?,
             "--mevo" => mevo = true,
             "--bad" => bad = true,
             number => numbers.push(number.parse().ok()?),
@@ -47,10 +51,15 @@ fn task() -> Option<Task> {
         [calls, seed] => (calls, seed),
         _ => return None,
     };
+    // Only a Mevo has a Pi.
+    let model = match mevo || which == Which::Pi {
+        true => DeviceModel::Mevo,
+        false => DeviceModel::Xi,
+    };
     Some(Task {
         calls,
         seed,
-        mevo,
+        leaning: Leaning { which, model },
         bad,
     })
 }

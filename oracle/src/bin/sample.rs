@@ -6,13 +6,20 @@ use std::{fs, io};
 
 use oracle::compare::{Source, as_text};
 use oracle::coverage::Coverage;
-use oracle::generate::LEANINGS;
+use oracle::generate::{LEANINGS, Leaning};
+use oracle::list::Which;
+use oracle::protocol::handshake::DeviceModel;
 
 const USAGE: &str = "usage: sample FILE";
 const SEED: u64 = 1;
 /// Of each sequence and model.
 const GOOD_CALLS: u64 = 1_000;
-const CALLS_BETWEEN_BAD_LINES: u64 = 1_200;
+const CALLS_BETWEEN_BAD_LINES: u64 = 1_300;
+/// A list of its has the words of all sequences.
+const WITH_BAD_LINES: Leaning = Leaning {
+    which: Which::Avr,
+    model: DeviceModel::Mevo,
+};
 
 fn main() -> ExitCode {
     let args: Vec<_> = std::env::args_os().skip(1).collect();
@@ -42,11 +49,11 @@ fn sample(file: &Path) -> io::Result<Vec<String>> {
         lines.extend(source.list(usize::MAX, GOOD_CALLS).lines);
         coverage.add(&source.coverage);
     }
-    let mut missing = coverage.missing();
+    let mut missing = coverage.missing(&Which::ALL);
 
-    let mut source = Source::new(SEED, LEANINGS[0], true);
+    let mut source = Source::new(SEED, WITH_BAD_LINES, true);
     lines.extend(source.list(usize::MAX, CALLS_BETWEEN_BAD_LINES).lines);
-    missing.extend(source.coverage.missing_reasons());
+    missing.extend(source.coverage.missing_reasons(&Which::ALL));
     fs::write(file, as_text(&lines))?;
     Ok(missing)
 }

@@ -2,7 +2,7 @@
 
 use super::kinds::{self, KINDS, Kind, Type};
 use super::random::Random;
-use crate::list::{self, Call, LONGEST};
+use crate::list::{self, Call, LONGEST, Which};
 
 /// Lines of these begin a list, before any sequence.
 pub const EARLY: [&str; 6] = [
@@ -80,21 +80,67 @@ const LINES: [&str; 62] = [
     "ack Xi Avr 0xD4 x",
 ];
 
+/// The same, with words that the DSP's lists haven't. Some can be read
+/// while another sequence runs.
+const MORE_LINES: [&str; 34] = [
+    "avrs",
+    "Avr",
+    "avr=Xi",
+    "avr Meva",
+    "avr xi",
+    "avr \"Xi\"",
+    "avr 1",
+    "avr Xi Xi",
+    "avr Mevo #",
+    "pis",
+    "Pi",
+    "pi Mevo",
+    "pi 1",
+    "feed 1 Avr 0xBF ModeAck wall",
+    "feed 1 Avr 0xBF ModeAck wall=",
+    "feed 1 Avr 0xBF ModeAck wall= 1",
+    "feed 1 Avr 0xBF ModeAck wall =1",
+    "feed 1 Avr 0xBF ModeAck Wall=1",
+    "feed 1 Avr 0xBF ModeAck wall=x",
+    "feed 1 Avr 0xBF ModeAck wall=0x",
+    "feed 1 Avr 0xBF ModeAck wall=-1",
+    "feed 1 Avr 0xBF ModeAck wall=1.5",
+    "feed 1 Avr 0xBF ModeAck wall=18446744073709551616",
+    "feed 1 Avr 0xBF ModeAck wall=0x10000000000000000",
+    "feed 1 Avr 0xBF ModeAck wall=1 wall=1",
+    "feed 1 Avr 0xBF ModeAck wall=1 text=41",
+    "feed 1 Avr 0xBF ModeAck text=41 wall=1 payload=41",
+    "feed 1 Avr 0xBF ModeAck payload=\"a\"wall=1",
+    "take",
+    " take",
+    "take it",
+    "check 0",
+    "\tcheck",
+    "check x",
+];
+
 /// Makes bad lines.
 pub struct BadLines {
     random: Random,
+    more: &'static [&'static str],
 }
 
 impl BadLines {
-    pub fn new(seed: u64) -> Self {
+    /// For lists that lean towards a sequence.
+    pub fn new(seed: u64, which: Which) -> Self {
         BadLines {
             random: Random::new(!seed),
+            more: match which {
+                Which::Dsp => &[],
+                _ => &MORE_LINES,
+            },
         }
     }
 
     /// Each of the written lines once, and each field wrong once.
     pub fn all(&mut self) -> Vec<String> {
-        let mut lines: Vec<String> = LINES.iter().map(|line| line.to_string()).collect();
+        let written = LINES.iter().chain(self.more);
+        let mut lines: Vec<String> = written.map(|line| line.to_string()).collect();
         for kind in &KINDS {
             for place in 0..kind.fields.len() {
                 lines.push(self.without(kind, place));
@@ -117,9 +163,17 @@ impl BadLines {
         &EARLY
     }
 
-    /// A good line made bad, most of the time; `None` if its text isn't
-    /// UTF-8 any more.
-    pub fn spoiled(&mut self, line: &str) -> Option<String> {
+    /// A line that is bad, most of the time: a good one spoiled, or one of
+    /// those above again.
+    pub fn any(&mut self, line: &str) -> Option<String> {
+        if !self.more.is_empty() && self.random.chance(10) {
+            return Some(self.random.pick(self.more).to_string());
+        }
+        self.spoiled(line)
+    }
+
+    /// `None` if its text isn't UTF-8 any more.
+    fn spoiled(&mut self, line: &str) -> Option<String> {
         let mut chars: Vec<char> = line.chars().collect();
         if chars.is_empty() {
             return None;
@@ -136,7 +190,7 @@ impl BadLines {
             _ => drop(chars.remove(at)),
         }
         let spoiled: String = chars.into_iter().collect();
-        let comparable = match list::read(spoiled.as_bytes(), true) {
+        let comparable = match list::read(spoiled.as_bytes(), Some(Which::Dsp)) {
             Ok(Some(Call::Feed(feed))) => std::str::from_utf8(&feed.text).is_ok(),
             _ => true,
         };

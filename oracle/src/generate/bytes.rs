@@ -79,6 +79,35 @@ pub fn device_info(random: &mut Random, model: DeviceModel) -> Vec<u8> {
     bytes
 }
 
+/// A network text: some texts with zero bytes between them, which may be
+/// empty.
+pub fn network(random: &mut Random) -> Vec<u8> {
+    let (length, zeros) = (length(random), random.pick(&[0, 0, 1, 1, 2, 3]));
+    let room = length.saturating_sub(zeros);
+    let mut cuts = vec![room];
+    for _ in 0..zeros {
+        let inside = random.index(room + 1);
+        cuts.push(random.pick(&[0, room, inside, inside]));
+    }
+    cuts.sort();
+    let (mut bytes, mut from) = (Vec::new(), 0);
+    for (i, cut) in cuts.into_iter().enumerate() {
+        if i > 0 {
+            bytes.push(0);
+        }
+        bytes.extend(without_zeros(text(random, cut - from)));
+        from = cut;
+    }
+    bytes
+}
+
+fn without_zeros(mut text: Vec<u8>) -> Vec<u8> {
+    for b in text.iter_mut().filter(|b| **b == 0) {
+        *b = b'0';
+    }
+    text
+}
+
 /// Writes bytes as digits or as a text.
 pub fn written(random: &mut Random, bytes: &[u8]) -> String {
     if random.chance(40) {

@@ -174,6 +174,24 @@ pub fn number(random: &mut Random, value: impl Into<i128>) -> String {
     }
 }
 
+/// Wall seconds: around 2^32 and 2^63, those of today, and any.
+pub fn wall_seconds(random: &mut Random) -> u64 {
+    const EDGES: [u64; 7] = [
+        0,
+        (1 << 32) - 1,
+        1 << 32,
+        (1 << 32) + 1,
+        (1 << 63) - 1,
+        1 << 63,
+        u64::MAX,
+    ];
+    match random.below(3) {
+        0 => random.pick(&EDGES),
+        1 => 1_763_240_000 + random.below(1_000_000),
+        _ => random.bits(),
+    }
+}
+
 /// No NaN.
 fn float_bits(random: &mut Random) -> u64 {
     let edges = [0.0, -0.0, 1.0, -1.0, 42.5, f64::MAX, f64::MIN_POSITIVE];

@@ -1,34 +1,44 @@
 //! Makes lists of calls from a seed.
 
+mod avr;
 mod bad;
 mod bytes;
+mod caller;
 mod dsp;
 mod kinds;
+mod pi;
 mod random;
+mod readings;
 
 pub use bad::BadLines;
+use caller::Caller;
 use random::Random;
 
-use crate::front::View;
+use crate::list::Which;
 use crate::protocol::handshake::DeviceModel;
+use crate::running::View;
 
-/// A sequence, and the model that most of its start-ups are of.
-#[derive(Clone, Copy)]
+/// A sequence and a model, of which most start-ups of a list are.
+///
+/// A list that leans towards the DSP has the DSP's words only: no other
+/// sequence and no wall seconds. The others have all of them.
+#[derive(Clone, Copy, PartialEq)]
 pub struct Leaning {
-    pub sequence: &'static str,
+    pub which: Which,
     pub model: DeviceModel,
 }
 
-/// The sequences that run today.
-pub const LEANINGS: [Leaning; 2] = [
-    Leaning {
-        sequence: "dsp",
-        model: DeviceModel::Xi,
-    },
-    Leaning {
-        sequence: "dsp",
-        model: DeviceModel::Mevo,
-    },
+const fn leaning(which: Which, model: DeviceModel) -> Leaning {
+    Leaning { which, model }
+}
+
+/// Only a Mevo has a Pi.
+pub const LEANINGS: [Leaning; 5] = [
+    leaning(Which::Dsp, DeviceModel::Xi),
+    leaning(Which::Dsp, DeviceModel::Mevo),
+    leaning(Which::Avr, DeviceModel::Xi),
+    leaning(Which::Avr, DeviceModel::Mevo),
+    leaning(Which::Pi, DeviceModel::Mevo),
 ];
 
 /// Makes one line after the other.
@@ -43,7 +53,7 @@ pub struct Generator {
 
 impl Generator {
     pub fn new(seed: u64, leaning: Leaning) -> Self {
-        let place = LEANINGS.iter().position(|l| l.same(leaning));
+        let place = LEANINGS.iter().position(|l| *l == leaning);
         let mut random = Random::new(seed);
         for _ in 0..=place.unwrap_or(0) {
             random = Random::new(random.bits());
@@ -64,35 +74,54 @@ impl Generator {
     /// The next line, for the state that the lines before it left.
     pub fn line(&mut self, view: Option<View>) -> String {
         let Some(view) = view.filter(|_| self.left > 0) else {
-            self.left = 15 + self.random.below(46);
-            self.first = dsp::first_reading(&mut self.random);
-            return self.leaning.sequence.to_string();
+            return self.begin();
         };
         self.left -= 1;
         let words = match self.random.below(100) {
             0..3 => return comment(&mut self.random),
             3..6 => aside(&mut self.random),
             6..10 => vec!["result".to_string()],
-            10..13 => vec!["take".to_string()],
+            10..13 if view.which.has_take() => vec!["take".to_string()],
             _ => self.call(view),
         };
         spaced(&mut self.random, &words)
     }
 
+    fn begin(&mut self) -> String {
+        self.left = 15 + self.random.below(46);
+        self.first = readings::first(&mut self.random);
+        let own = self.leaning.which;
+        if own == Which::Dsp {
+            return own.word().to_string();
+        }
+        let which = match self.random.chance(85) {
+            true => own,
+            false => self.random.pick(&Which::ALL),
+        };
+        // Its table is the longest.
+        self.left += if which == Which::Pi { 10 } else { 0 };
+        let words = self.begin_words(which);
+        spaced(&mut self.random, &words)
+    }
+
+    fn begin_words(&mut self, which: Which) -> Vec<String> {
+        let mut words = vec![which.word().to_string()];
+        let mevo = self.leaning.model == DeviceModel::Mevo;
+        if which == Which::Avr && !(mevo && self.random.chance(40)) {
+            words.push(self.leaning.model.label().to_string());
+        }
+        words
+    }
+
     fn call(&mut self, view: View) -> Vec<String> {
-        let mut call = dsp::Caller {
+        let mut call = Caller {
             random: &mut self.random,
             model: self.leaning.model,
             first: self.first,
             view,
+            walls: self.leaning.which != Which::Dsp,
         };
         call.words()
-    }
-}
-
-impl Leaning {
-    pub fn same(self, other: Leaning) -> bool {
-        (self.sequence, self.model) == (other.sequence, other.model)
     }
 }
 

@@ -29,6 +29,7 @@ pub enum Reason {
     ParamCount,
     EndOfLine,
     NoSequence,
+    NotOfSequence,
     LineTooLong,
 }
 
@@ -44,7 +45,7 @@ impl Bad {
 
 impl Reason {
     /// One of each, for counting. A missing field is named NAME here.
-    pub const ALL: [Reason; 19] = [
+    pub const ALL: [Reason; 20] = [
         Reason::UnknownCall,
         Reason::UnknownModel,
         Reason::UnknownSource,
@@ -63,6 +64,7 @@ impl Reason {
         Reason::ParamCount,
         Reason::EndOfLine,
         Reason::NoSequence,
+        Reason::NotOfSequence,
         Reason::LineTooLong,
     ];
 
@@ -96,6 +98,7 @@ impl fmt::Display for Reason {
             Reason::ParamCount => "34 numbers expected",
             Reason::EndOfLine => "end of line expected",
             Reason::NoSequence => "no sequence has begun",
+            Reason::NotOfSequence => "not a call of this sequence",
             Reason::LineTooLong => "line longer than 65536 bytes",
         })
     }

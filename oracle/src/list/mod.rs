@@ -3,9 +3,11 @@
 mod bad;
 mod cursor;
 mod kind;
+mod which;
 
 pub use bad::{Bad, Reason};
 use cursor::Cursor;
+pub use which::Which;
 
 use crate::addr::BusAddr;
 use crate::protocol::Message;
@@ -37,8 +39,22 @@ pub enum Call {
 }
 
 /// The sequence that a line begins.
+#[derive(Clone, Copy)]
 pub enum Begin {
     Dsp,
+    /// With the model, if one is given.
+    Avr(Option<DeviceModel>),
+    Pi,
+}
+
+impl Begin {
+    pub fn which(self) -> Which {
+        match self {
+            Begin::Dsp => Which::Dsp,
+            Begin::Avr(_) => Which::Avr,
+            Begin::Pi => Which::Pi,
+        }
+    }
 }
 
 /// The message holds the numbers only; its bytes stand beside it.
@@ -49,10 +65,13 @@ pub struct Feed {
     pub message: Message,
     pub text: Vec<u8>,
     pub payload: Vec<u8>,
+    /// The wall clock's seconds.
+    pub wall: u64,
 }
 
-/// Reads a line without its line feed. A comment gives no call.
-pub fn read(line: &[u8], running: bool) -> Result<Option<Call>, Bad> {
+/// Reads a line without its line feed, for the sequence that runs. A
+/// comment gives no call.
+pub fn read(line: &[u8], running: Option<Which>) -> Result<Option<Call>, Bad> {
     if line.len() > LONGEST {
         return Err(Bad::at(LONGEST, Reason::LineTooLong));
     }
@@ -61,22 +80,34 @@ pub fn read(line: &[u8], running: bool) -> Result<Option<Call>, Bad> {
     if word.is_empty() || word.starts_with(b"#") {
         return Ok(None);
     }
+    belongs(word, running)?;
     let call = match word {
         b"dsp" => Call::Begin(Begin::Dsp),
-        b"feed" | b"check" | b"result" | b"take" if !running => {
-            return Err(Bad::at(0, Reason::NoSequence));
-        }
+        b"avr" => Call::Begin(Begin::Avr(given_model(&mut c)?)),
+        b"pi" => Call::Begin(Begin::Pi),
         b"feed" => Call::Feed(Box::new(feed(&mut c)?)),
         b"check" => Call::Check { now: c.number()? },
         b"result" => Call::Result,
         b"take" => Call::Take,
         b"ack" => ack(&mut c)?,
-        b"keepalive" => keepalive(&mut c)?,
+        b"keepalive" => Call::Keepalive {
+            model: given_model(&mut c)?,
+        },
         b"model" => model_of(&mut c)?,
         _ => return Err(Bad::at(at, Reason::UnknownCall)),
     };
     c.end()?;
     Ok(Some(call))
+}
+
+/// A call of a sequence can't be read while none runs, or one without it.
+fn belongs(word: &[u8], running: Option<Which>) -> Result<(), Bad> {
+    match (word, running) {
+        (b"feed" | b"check" | b"result" | b"take", None) => Err(Bad::at(0, Reason::NoSequence)),
+        (b"check", Some(which)) if !which.has_check() => Err(Bad::at(0, Reason::NotOfSequence)),
+        (b"take", Some(which)) if !which.has_take() => Err(Bad::at(0, Reason::NotOfSequence)),
+        _ => Ok(()),
+    }
 }
 
 fn feed(c: &mut Cursor) -> Result<Feed, Bad> {
@@ -90,6 +121,7 @@ fn feed(c: &mut Cursor) -> Result<Feed, Bad> {
         message: kind::kind(c, src, type_id)?,
         text: lent(c, "text")?,
         payload: lent(c, "payload")?,
+        wall: wall(c)?,
     })
 }
 
@@ -102,6 +134,14 @@ fn lent(c: &mut Cursor, name: &str) -> Result<Vec<u8>, Bad> {
     }
 }
 
+fn wall(c: &mut Cursor) -> Result<u64, Bad> {
+    if c.next_is("wall") {
+        c.number_field("wall")
+    } else {
+        Ok(0)
+    }
+}
+
 fn ack(c: &mut Cursor) -> Result<Call, Bad> {
     Ok(Call::Ack {
         model: model(c)?,
@@ -110,9 +150,12 @@ fn ack(c: &mut Cursor) -> Result<Call, Bad> {
     })
 }
 
-fn keepalive(c: &mut Cursor) -> Result<Call, Bad> {
-    let model = if c.at_end() { None } else { Some(model(c)?) };
-    Ok(Call::Keepalive { model })
+/// The model that ends a line, if one does.
+fn given_model(c: &mut Cursor) -> Result<Option<DeviceModel>, Bad> {
+    if c.at_end() {
+        return Ok(None);
+    }
+    model(c).map(Some)
 }
 
 fn model_of(c: &mut Cursor) -> Result<Call, Bad> {

@@ -1,11 +1,15 @@
 //! Writes answers, as docs/REPLAY.md says.
 
+mod records;
+
+pub use records::{avr_status, cam_config, dev_info, dsp_status, hw_info, nack, params, payload};
+
 use crate::addr::BusAddr;
-use crate::conn::Envelope;
-use crate::protocol::config::{ConfigResp, ParamData, ParamValue};
-use crate::protocol::handshake::{DevInfoResp, DspQueryResp, TimeSync};
-use crate::protocol::status::{ConfigAck, DspStatus, DspStatus80};
-use crate::protocol::{Command, Message};
+use crate::protocol::Command;
+use crate::protocol::config::{ParamData, ParamValue};
+use crate::protocol::handshake::TimeSync;
+use crate::protocol::status::ConfigAck;
+use crate::running::Step;
 use crate::seq::Action;
 
 const DIGITS: [char; 16] = [
@@ -60,6 +64,13 @@ pub fn boolean(out: &mut String, field: &str, value: bool) {
     out.push_str(if value { "true" } else { "false" });
 }
 
+/// The digits of a float's bits.
+fn float(out: &mut String, field: &str, value: f64) {
+    name(out, field);
+    out.push_str("0x");
+    digits(out, &value.to_bits().to_be_bytes());
+}
+
 fn digits(out: &mut String, bytes: &[u8]) {
     for &b in bytes {
         byte(out, b);
@@ -93,6 +104,15 @@ pub fn reading(out: &mut String, field: &str, value: Option<u64>) {
     match value {
         Some(value) => number(out, field, value),
         None => none(out, field),
+    }
+}
+
+/// The step that is next, at the end of an answer.
+pub fn step(out: &mut String, step: Step) {
+    out.push_str("; ");
+    out.push_str(step.name);
+    if let Some(index) = step.index {
+        number(out, "idx", index as u64);
     }
 }
 
@@ -173,11 +193,7 @@ fn param_value(out: &mut String, param: &ParamValue) {
     hex(out, "param_id", param.param_id);
     match param.value {
         ParamData::Int24(value) => number(out, "int24", value),
-        ParamData::Float40(value) => {
-            name(out, "float40");
-            out.push_str("0x");
-            digits(out, &value.to_bits().to_be_bytes());
-        }
+        ParamData::Float40(value) => float(out, "float40", value),
     }
 }
 
@@ -191,71 +207,4 @@ fn time_sync(out: &mut String, sync: &TimeSync) {
 fn config_ack(out: &mut String, ack: &ConfigAck) {
     hex(out, "bus_addr", ack.bus_addr);
     hex(out, "acked_cmd", ack.acked_cmd);
-}
-
-pub fn dsp_status(out: &mut String, status: Option<&DspStatus>) {
-    match status {
-        None => none(out, "status"),
-        Some(DspStatus::V80(s)) => dsp_status_80(out, s),
-        Some(DspStatus::V46(s)) => {
-            word(out, "status", "V46");
-            number(out, "state", s.state);
-            hex(out, "version", s.version);
-            bytes(out, "payload", &s.payload);
-        }
-    }
-}
-
-fn dsp_status_80(out: &mut String, status: &DspStatus80) {
-    word(out, "status", "V80");
-    number(out, "state", status.state);
-    number(out, "input_voltage_usb", status.input_voltage_usb);
-    number(out, "system_voltage", status.system_voltage);
-    number(out, "battery_current", status.battery_current);
-    number(out, "temperature_raw", status.temperature_raw);
-    number(out, "battery_voltage", status.battery_voltage);
-    number(out, "battery_voltage_2", status.battery_voltage_2);
-    number(out, "power_level", status.power_level);
-    boolean(out, "external_power", status.external_power);
-}
-
-pub fn hw_info(out: &mut String, info: Option<&DspQueryResp>) {
-    let Some(info) = info else {
-        return none(out, "hw_info");
-    };
-    hex(out, "hw_info=version", info.version);
-    hex(out, "dsp_type", info.dsp_type);
-    number(out, "pcb", info.pcb);
-}
-
-pub fn dev_info(out: &mut String, info: Option<&DevInfoResp>) {
-    let Some(info) = info else {
-        return none(out, "dev_info");
-    };
-    bytes(out, "dev_info=text", info.text.as_bytes());
-    bytes(out, "payload", &info.payload);
-}
-
-pub fn params(out: &mut String, config: Option<&ConfigResp>) {
-    let Some(config) = config else {
-        return none(out, "params");
-    };
-    name(out, "params");
-    for (i, &param) in config.params.iter().enumerate() {
-        if i > 0 {
-            out.push(',');
-        }
-        decimal(out, param);
-    }
-}
-
-/// The fields of a nack that was kept.
-pub fn nack(out: &mut String, env: &Envelope) {
-    let Message::ConfigNack(nack) = &env.message else {
-        unreachable!("only a nack is kept: {env:?}");
-    };
-    out.push_str("src=");
-    out.push_str(source(env.src));
-    hex(out, "type_id", env.type_id);
-    config_ack(out, nack);
 }

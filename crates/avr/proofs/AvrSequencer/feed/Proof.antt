@@ -1,0 +1,99 @@
+-- `feed` meets its contract.
+-- Assumes nothing.
+use mathlib.Core.Path.{sym, ap, _∙_}
+use denote.Ref.{now}
+use Rattle.protocol.specs.declared.addr.BusAddr.{BusAddr}
+use Rattle.protocol.proofs.Arms.{elsewhere}
+use Rattle.sequence.specs.Accepted.{feedOutcome}
+use Rattle.sequence.specs.Events.{fed}
+use Rattle.sequence.proofs.Arms.{judged-accepted, judged-refused}
+use Rattle.avr_steps.specs.declared.AvrMoved.{AvrMoved}
+use Rattle.avr_steps.specs.Stores.{Dated}
+use Rattle.avr_steps.specs.Answers as steps
+use Rattle.avr_steps.proofs.Rows.{foreign-idles}
+use Rattle.avr.specs.Answers.{accepted, refused}
+use borrow.Author.Needs.{needs}
+use Rattle.avr.proofs.AvrSequencer.feed.Statement.{statement}
+use Rattle.avr.proofs.AvrSequencer.feed.Tie as tie
+
+accept-feed-requires : tie.Need-accept-feed-requires
+accept-feed-requires c κs = search needs
+
+enum-told : tie.Need-enum-told
+enum-told c = search needs
+
+enum-told-2 : tie.Need-enum-told-2
+enum-told-2 c = search needs
+
+feed-requires : tie.Need-feed-requires
+feed-requires c κs = search needs
+
+accepted-requires : tie.Need-accepted-requires
+accepted-requires c κs = search needs
+
+none-requires : tie.Need-none-requires
+none-requires c κs = search needs
+
+enum-known-outcome : tie.Need-enum-known-outcome
+enum-known-outcome c = search needs
+
+refuse-requires : tie.Need-refuse-requires
+refuse-requires c κs = search needs
+
+returns : tie.Need-returns
+returns c = let a = c .before .before .before .before .before .before .before .before .before .before .args in
+    let s = a .self in
+    let t = a .now in
+    let d : BusAddr → Dated = λ b.
+    record {
+      envelope = record { src = b; type-id = a .type-id; message = a .message; params = a .params; text = now (a .text); payload = now (a .payload) };
+      wall = a .wall;
+    }
+    in
+    let o = sym (c .before .before .before .before .before .before .before .accept-feed .ensures) ∙ c .before .before .before .before .before .enum-told .given .1 in
+    let from = ap (λ (b : BusAddr). steps.answered (s .state) (fed (d b) t)) (sym (c .before .before .before .enum-told2 .given .1)) in
+    c .accepted .ensures ∙ ap (λ (w : AvrMoved). accepted w t) (c .before .feed .ensures ∙ from)
+    ∙ judged-accepted (feedOutcome (now (a .text)) (now (a .payload)) (s .last) t) (accepted (steps.answered (s .state) (fed (d (a .src)) t)) t) (refused s) o
+
+returns-2 : tie.Need-returns-2
+returns-2 c = let a = c .before .before .before .before .before .before .before .args in
+    let s = a .self in
+    let t = a .now in
+    let d : BusAddr → Dated = λ b.
+    record {
+      envelope = record { src = b; type-id = a .type-id; message = a .message; params = a .params; text = now (a .text); payload = now (a .payload) };
+      wall = a .wall;
+    }
+    in
+    let o = sym (c .before .before .before .before .accept-feed .ensures) ∙ c .before .before .enum-told .given .1 in
+    let still = foreign-idles (s .state) (d (a .src)) t (elsewhere BusAddr.Avr (a .src) (c .before .match2 .keys2)) in
+    rw (c .none .ensures) (ap (λ (w : AvrMoved). accepted w t) still ∙ judged-accepted (feedOutcome (now (a .text)) (now (a .payload)) (s .last) t) (accepted (steps.answered (s .state) (fed (d (a .src)) t)) t) (refused s) o)
+
+returns-3 : tie.Need-returns-3
+returns-3 c = let a = c .before .before .before .before .before .before .before .args in
+    let s = a .self in
+    let t = a .now in
+    let d : BusAddr → Dated = λ b.
+    record {
+      envelope = record { src = b; type-id = a .type-id; message = a .message; params = a .params; text = now (a .text); payload = now (a .payload) };
+      wall = a .wall;
+    }
+    in
+    let o = sym (c .before .before .before .before .accept-feed .ensures) ∙ c .before .before .outcome .given .1 in
+    c .refuse .ensures ∙ judged-refused (feedOutcome (now (a .text)) (now (a .payload)) (s .last) t) (accepted (steps.answered (s .state) (fed (d (a .src)) t)) t) (refused s) _ o
+
+pub feed-spec : {M : Type 1} → statement M
+feed-spec =
+    tie.close
+    (tie.spec
+    accept-feed-requires
+    enum-told
+    enum-told-2
+    feed-requires
+    accepted-requires
+    none-requires
+    enum-known-outcome
+    refuse-requires
+    returns
+    returns-2
+    returns-3)

@@ -1,0 +1,189 @@
+// The calls of an AVR start-up, and what they answer.
+mod stored;
+
+use avr::AvrFed;
+use avr::AvrSequencer;
+use avr_steps::AvrStep;
+use device::model::DeviceModel;
+use device_calls::next::Turn;
+use device_calls::next::next;
+use protocol::refusal::Outcome;
+use reading::bytes::BYTES;
+use reading::call::Call;
+use reading::call::Calls;
+use reading::call::Feed;
+use streams::INPUT;
+use streams::LONGER;
+use streams::Stream;
+use words::kinds::VALUES;
+use words::part;
+use writing::send;
+use writing::write;
+use writing::write::OUT;
+
+// The start-up after a call, and the end of the answer.
+struct Answered {
+    avr: AvrSequencer,
+    at: usize,
+}
+
+fn number_of(step: AvrStep) -> usize {
+    match step {
+        AvrStep::WaitStatus1 => 0,
+        AvrStep::WaitStatus2 => 1,
+        AvrStep::WaitDevInfo1 => 2,
+        AvrStep::WaitDevInfo2 => 3,
+        AvrStep::WaitParam0C => 4,
+        AvrStep::WaitParam0D => 5,
+        AvrStep::WaitConfig => 6,
+        AvrStep::WaitFactoryCal => 7,
+        AvrStep::WaitIfCal => 8,
+        AvrStep::WaitAvrConfig => 9,
+        AvrStep::WaitParam64 => 10,
+        AvrStep::WaitTimeSync => 11,
+        AvrStep::Done => 12,
+    }
+}
+
+fn name(out: &mut [u8; OUT], at: usize, step: AvrStep) -> usize {
+    let names =
+        b"WaitStatus1 WaitStatus2 WaitDevInfo1 WaitDevInfo2 WaitParam0C WaitParam0D WaitConfig WaitFactoryCal WaitIfCal \
+        WaitAvrConfig WaitParam64 WaitTimeSync Done";
+    write::choice(out, at, number_of(step), names, b' ')
+}
+
+fn step_of(avr: AvrSequencer) -> AvrStep {
+    let state = avr.state;
+    state.step
+}
+
+fn begin(model: DeviceModel, out: &mut [u8; OUT], at: usize) -> Answered {
+    let started = AvrSequencer::new_for(model);
+    let action = started.action;
+    let avr = started.seq;
+    let end = send::sent(out, at, action);
+    Answered {
+        avr: avr,
+        at: name(out, end, step_of(avr)),
+    }
+}
+
+fn fed(out: &mut [u8; OUT], at: usize, fed: AvrFed) -> Answered {
+    let outcome = fed.outcome;
+    let action = fed.action;
+    let avr = fed.seq;
+    let end = send::fed(out, at, outcome, action);
+    Answered {
+        avr: avr,
+        at: name(out, end, step_of(avr)),
+    }
+}
+
+fn feed(
+    avr: AvrSequencer,
+    feed: Feed,
+    values: &[u64; VALUES],
+    bytes: &[u8],
+    out: &mut [u8; OUT],
+    at: usize,
+) -> Answered {
+    let src = feed.src;
+    let message = messages::message(feed.kind, values);
+    let numbers = messages::params(feed.kind, values);
+    let text = part(bytes, 0, feed.text);
+    let payload = part(bytes, feed.text, feed.payload);
+    let after = avr.feed(
+        src,
+        feed.type_id,
+        message,
+        numbers,
+        text,
+        payload,
+        feed.now,
+        feed.wall,
+    );
+    fed(out, at, after)
+}
+
+fn check(avr: AvrSequencer, now: u64, out: &mut [u8; OUT], at: usize) -> Answered {
+    fed(out, at, avr.check_cal_timeout(now))
+}
+
+fn result(avr: AvrSequencer, out: &mut [u8; OUT], at: usize) -> usize {
+    let finished = avr.into_result();
+    let outcome = finished.outcome;
+    let end = send::outcome(out, at, outcome);
+    if let Outcome::Refused(_) = outcome {
+        return end;
+    }
+    let sync = finished.sync;
+    stored::sync(out, end, sync)
+}
+
+fn calls() -> Calls {
+    Calls {
+        feed: true,
+        check: true,
+        result: true,
+        take: false,
+    }
+}
+
+// A call of a start-up that has begun: `result`, where it is no other.
+fn call(
+    avr: AvrSequencer,
+    call: Call,
+    values: &[u64; VALUES],
+    bytes: &[u8],
+    out: &mut [u8; OUT],
+    at: usize,
+) -> Answered {
+    match call {
+        Call::Feed(envelope) => feed(avr, envelope, values, bytes, out, at),
+        Call::Check(now) => check(avr, now, out, at),
+        _ => Answered {
+            avr: avr,
+            at: result(avr, out, at),
+        },
+    }
+}
+
+// Ends an answer, with every stored field if they are asked for.
+fn end(avr: AvrSequencer, stream: Stream, out: &mut [u8; OUT], at: usize) -> Stream {
+    if stream.with_state {
+        let state = avr.state;
+        let end = stored::state(out, at, avr.last, state);
+        return stream.answered(out, end);
+    }
+    stream.answered(out, at)
+}
+
+// A start-up from its beginning, whose number is written, to the beginning of the next sequence or the end of the list. The calls
+// are counted down, as reads are.
+pub fn run(
+    model: DeviceModel,
+    stream: Stream,
+    input: &mut [u8; INPUT],
+    line: &mut [u8; LONGER],
+    values: &mut [u64; VALUES],
+    bytes: &mut [u8; BYTES],
+    out: &mut [u8; OUT],
+) -> Turn {
+    let mut done = begin(model, out, stream.out);
+    let mut turn = Turn::without_call(stream);
+    let mut turns = u64::MAX;
+    loop {
+        let avr = done.avr;
+        let ended = end(avr, turn.stream, out, done.at);
+        turn = next(ended, calls(), input, line, values, bytes, out);
+        if turn.leaves() {
+            return turn;
+        }
+        let asked = turn.call;
+        done = call(avr, asked, values, bytes, out, turn.stream.out);
+        if turns == 0 {
+            return turn;
+        }
+        turns -= 1;
+    }
+}

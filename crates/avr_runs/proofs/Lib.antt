@@ -1,0 +1,3 @@
+pub mod States
+pub mod Whole
+pub mod Days

@@ -1,0 +1,3 @@
+pub mod Stores
+pub mod Table
+pub mod Answers

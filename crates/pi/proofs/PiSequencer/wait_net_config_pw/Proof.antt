@@ -1,0 +1,56 @@
+-- `wait_net_config_pw` meets its contract.
+-- Assumes nothing.
+use mathlib.Core.Path.{_∙_}
+use mathlib.Core.List.{[]}
+use denote.Ref.{now}
+use Rattle.protocol.proofs.Arms.{other}
+use Rattle.sequence.specs.Rows.{past}
+use Rattle.pi.specs.declared.PiStep.{PiStep}
+use Rattle.pi.specs.Table.{entry7}
+use Rattle.pi.specs.Answers.{sent}
+use Rattle.pi.proofs.Rows.{idles}
+use borrow.Author.Needs.{needs}
+use Rattle.pi.proofs.PiSequencer.wait_net_config_pw.Statement.{statement}
+use Rattle.pi.proofs.PiSequencer.wait_net_config_pw.Tie as tie
+
+enum-told : tie.Need-enum-told
+enum-told c = search needs
+
+before-zero-requires : tie.Need-before-zero-requires
+before-zero-requires c κs = search needs
+
+after-zero-requires : tie.Need-after-zero-requires
+after-zero-requires c κs = search needs
+
+array-read-param-read-req : tie.Need-array-read-param-read-req
+array-read-param-read-req c = search needs
+
+param-read-req-requires : tie.Need-param-read-req-requires
+param-read-req-requires c κs = search needs
+
+moved-requires : tie.Need-moved-requires
+moved-requires c κs = search needs
+
+returns : tie.Need-returns
+returns c = c .moved .ensures ∙ rw (c .before .before .before .before .before .enum-told .given .1, c .before .param-read-req .ensures, c .before .before .after-zero .ensures, c .before .before .before .before-zero .ensures)
+
+idle-requires : tie.Need-idle-requires
+idle-requires c κs = search needs
+
+returns-2 : tie.Need-returns-2
+returns-2 c = let a = c .before .before .before .args in
+    c .idle .ensures ∙ idles entry7 (PiStep.WaitParams 0) past (a .self) (sent 0 (a .message) (now (a .text)) []) (other 15 (a .message) tt (c .before .match .keys2))
+
+pub wait-net-config-pw-spec : {M : Type 1} → statement M
+wait-net-config-pw-spec =
+    tie.close
+    (tie.spec
+    enum-told
+    before-zero-requires
+    after-zero-requires
+    array-read-param-read-req
+    param-read-req-requires
+    moved-requires
+    returns
+    idle-requires
+    returns-2)

@@ -1,0 +1,4 @@
+pub mod Stores
+pub mod Table
+pub mod Answers
+pub mod Calls

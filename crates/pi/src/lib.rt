@@ -1,0 +1,391 @@
+// Pi start-up (src/seq.rs, "Phase 3 — PiSequencer") as a pollable state machine by value: `feed` takes a decoded envelope and answers
+// with at most one command to send. It has no clock.
+ghost use mathlib.Core.Path.{_≡_};
+ghost use mathlib.Core.List.{[]};
+ghost use Prim.Native.Nat.{_+_};
+ghost use lib.ListN.{take, drop};
+ghost use Rattle.protocol.specs.Stored.{stored};
+ghost use denote.Ref.{now as held};
+ghost use Rattle.protocol.specs.declared.addr.BusAddr.{BusAddr};
+ghost use Rattle.protocol.specs.declared.refusal.Outcome.{Outcome};
+ghost use Rattle.sequence.specs.Rows.{idle, past};
+ghost use Rattle.pi.specs.declared.PiStep.{PiStep};
+ghost use Rattle.pi.specs.Stores.{noReplies, firstZero};
+ghost use Rattle.pi.specs.Table.{entry1, entry2, entry4, entry5, entry6, entry7, paramEntry, paramRow, next};
+ghost use Rattle.pi.specs.Answers.{begun, view, made, refused, advance, armAt, sent, fedTo, syncOf, finished};
+use protocol::Action;
+use protocol::Command;
+use protocol::Message;
+use protocol::addr::BusAddr;
+use protocol::camera::CamConfig;
+use protocol::handshake::DevInfoResp;
+use protocol::handshake::OptionDevInfoResp;
+use protocol::refusal::Outcome;
+use protocol::refusal::Refusal;
+use protocol::status::StatusPoll;
+use protocol::stored::Stored;
+use requests::net_config_req;
+use requests::param_read_req;
+
+// The parameters that are read last, in this order.
+const IDS: [u8; 9] = [0x01, 0x07, 0x08, 0x09, 0x06, 0x0B, 0x03, 0x04, 0x05];
+
+pub enum PiStep {
+    WaitStatus,
+    WaitDevInfo,
+    WaitParam0A,
+    WaitCamConfig1,
+    WaitCamConfig2,
+    WaitNetConfig,
+    WaitNetConfigPw,
+    // the replies to the nine parameter reads
+    WaitParams { idx: usize },
+    Done,
+}
+
+pub struct OptionCamConfig {
+    pub some: bool,
+    pub value: CamConfig,
+}
+
+pub struct PiReplies {
+    pub dev_info: OptionDevInfoResp,
+    pub cam_config: OptionCamConfig,
+    pub ssid: Stored,
+    pub password: Stored,
+}
+
+pub struct PiSequencer {
+    pub step: PiStep,
+    pub replies: PiReplies,
+}
+
+pub struct PiSync {
+    pub dev_info: DevInfoResp,
+    pub cam_config: CamConfig,
+    pub ssid: Stored,
+    pub password: Stored,
+}
+
+pub struct PiStarted {
+    pub action: Action,
+    pub seq: PiSequencer,
+}
+
+pub struct PiFed {
+    pub outcome: Outcome,
+    pub action: Action,
+    pub seq: PiSequencer,
+}
+
+pub struct PiFinished {
+    pub outcome: Outcome,
+    pub sync: PiSync,
+}
+
+impl PiReplies {
+    fn none() -> PiReplies
+        ensures { λ r. ⌜ r ≡ noReplies ⌝ }
+    {
+        let bytes = Stored::empty();
+        let cam_config = CamConfig::none();
+        PiReplies {
+            dev_info: OptionDevInfoResp {
+                some: false,
+                value: DevInfoResp {
+                    text: bytes,
+                    payload: bytes,
+                },
+            },
+            cam_config: OptionCamConfig {
+                some: false,
+                value: cam_config,
+            },
+            ssid: bytes,
+            password: bytes,
+        }
+    }
+}
+
+// ---- the network text
+
+// The place of the first zero byte, the text's length if there is none.
+fn first_zero(text: &[u8]) -> usize
+    ensures { λ r. ⌜ r ≡ firstZero (held (text .entry)) ⌝ }
+{
+    let mut i = 0;
+    while i < text.len() {
+        if text[i] == 0 {
+            return i;
+        }
+        i += 1;
+    }
+    text.len()
+}
+
+// The part before the first zero byte.
+fn before_zero(text: &[u8]) -> Stored
+    ensures { λ r. ⌜ r ≡ stored (take (firstZero (held (text .entry))) (held (text .entry))) ⌝ }
+{
+    let at = first_zero(text);
+    Stored::from_slice(&text[..at])
+}
+
+// All after the first zero byte, nothing if there is none.
+fn after_zero(text: &[u8]) -> Stored
+    ensures { λ r. ⌜ r ≡ stored (drop (firstZero (held (text .entry)) + 1) (held (text .entry))) ⌝ }
+{
+    let at = first_zero(text);
+    if at < text.len() {
+        return Stored::from_slice(&text[at + 1..]);
+    }
+    Stored::empty()
+}
+
+// The result that these replies make.
+fn sync(replies: PiReplies) -> PiSync
+    ensures { λ r. ⌜ r ≡ syncOf replies ⌝ }
+{
+    let dev_info = replies.dev_info;
+    let info = dev_info.value;
+    let cam_config = replies.cam_config;
+    let camera = cam_config.value;
+    let ssid = replies.ssid;
+    let password = replies.password;
+    PiSync {
+        dev_info: info,
+        cam_config: camera,
+        ssid: ssid,
+        password: password,
+    }
+}
+
+// ---- an envelope from the Pi, by step
+
+fn moved(step: PiStep, replies: PiReplies, action: Action) -> PiFed
+    ensures { λ r. ⌜ r ≡ record { outcome = Outcome.Accepted; action = action; seq = record { step = step; replies = replies } } ⌝ }
+{
+    PiFed {
+        outcome: Outcome::Accepted,
+        action: action,
+        seq: PiSequencer {
+            step: step,
+            replies: replies,
+        },
+    }
+}
+
+impl PiSequencer {
+    // Nothing is sent, and nothing changes.
+    fn idle(self) -> PiFed
+        ensures { λ r. ⌜ r ≡ made (idle (view self)) ⌝ }
+    {
+        let action = Action::none();
+        PiFed {
+            outcome: Outcome::Accepted,
+            action: action,
+            seq: self,
+        }
+    }
+
+    fn refuse(self, refusal: Refusal) -> PiFed
+        ensures { λ r. ⌜ r ≡ refused self (Outcome.Refused refusal) ⌝ }
+    {
+        let action = Action::none();
+        PiFed {
+            outcome: Outcome::Refused(refusal),
+            action: action,
+            seq: self,
+        }
+    }
+
+    fn wait_status(self, message: Message) -> PiFed
+        ensures { λ r. ⌜ r ≡ armAt entry1 PiStep.WaitDevInfo past self (sent 0 message [] []) ⌝ }
+    {
+        if let Message::PiStatus = message {
+            let action = Action::send(Command::DevInfoReq, BusAddr::Pi);
+            return moved(PiStep::WaitDevInfo, self.replies, action);
+        }
+        self.idle()
+    }
+
+    fn wait_dev_info(self, message: Message, text: &[u8], payload: &[u8]) -> PiFed
+        ensures { λ r. ⌜ r ≡ armAt entry2 PiStep.WaitParam0A past self (sent 0 message (held (text .entry)) (held (payload .entry))) ⌝ }
+    {
+        if let Message::DevInfoResp = message {
+            let mut replies = self.replies;
+            let dev_info = OptionDevInfoResp {
+                some: true,
+                value: DevInfoResp {
+                    text: Stored::from_slice(text),
+                    payload: Stored::from_slice(payload),
+                },
+            };
+            replies.dev_info = dev_info;
+            return moved(
+                PiStep::WaitParam0A,
+                replies,
+                param_read_req(0x0A, BusAddr::Pi),
+            );
+        }
+        self.idle()
+    }
+
+    // A parameter's value; then `action` is sent, and the step is `step`.
+    fn wait_param(self, step: PiStep, action: Action, message: Message) -> PiFed
+        ensures { λ r. ⌜ r ≡ armAt (paramEntry action) step past self (sent 0 message [] []) ⌝ }
+    {
+        if let Message::ParamValue(_) = message {
+            return moved(step, self.replies, action);
+        }
+        self.idle()
+    }
+
+    fn wait_cam_config1(self, message: Message) -> PiFed
+        ensures { λ r. ⌜ r ≡ armAt entry4 PiStep.WaitCamConfig2 past self (sent 0 message [] []) ⌝ }
+    {
+        if let Message::CamConfig(_) = message {
+            let action = Action::send(Command::CamConfigReq, BusAddr::Pi);
+            return moved(PiStep::WaitCamConfig2, self.replies, action);
+        }
+        self.idle()
+    }
+
+    fn wait_cam_config2(self, message: Message) -> PiFed
+        ensures { λ r. ⌜ r ≡ armAt entry5 PiStep.WaitNetConfig past self (sent 0 message [] []) ⌝ }
+    {
+        if let Message::CamConfig(c) = message {
+            let mut replies = self.replies;
+            let cam_config = OptionCamConfig {
+                some: true,
+                value: c,
+            };
+            replies.cam_config = cam_config;
+            return moved(PiStep::WaitNetConfig, replies, net_config_req(false));
+        }
+        self.idle()
+    }
+
+    fn wait_net_config(self, message: Message) -> PiFed
+        ensures { λ r. ⌜ r ≡ armAt entry6 PiStep.WaitNetConfigPw past self (sent 0 message [] []) ⌝ }
+    {
+        if let Message::NetConfigResp = message {
+            return moved(PiStep::WaitNetConfigPw, self.replies, net_config_req(true));
+        }
+        self.idle()
+    }
+
+    fn wait_net_config_pw(self, message: Message, text: &[u8]) -> PiFed
+        ensures { λ r. ⌜ r ≡ armAt entry7 (PiStep.WaitParams 0) past self (sent 0 message (held (text .entry)) []) ⌝ }
+    {
+        if let Message::NetConfigResp = message {
+            let mut replies = self.replies;
+            let ssid = before_zero(text);
+            let password = after_zero(text);
+            replies.ssid = ssid;
+            replies.password = password;
+            return moved(
+                PiStep::WaitParams { idx: 0 },
+                replies,
+                param_read_req(IDS[0], BusAddr::Pi),
+            );
+        }
+        self.idle()
+    }
+
+    fn wait_params(self, idx: usize, message: Message) -> PiFed
+        ensures { λ r. ⌜ r ≡ armAt (paramRow idx) (next (PiStep.WaitParams idx)) past self (sent 0 message [] []) ⌝ }
+    {
+        if idx < 8 {
+            let next = idx + 1;
+            return self.wait_param(
+                PiStep::WaitParams { idx: next },
+                param_read_req(IDS[next], BusAddr::Pi),
+                message,
+            );
+        }
+        self.wait_param(PiStep::Done, Action::none(), message)
+    }
+
+    fn feed_pi(self, type_id: u8, message: Message, text: &[u8], payload: &[u8]) -> PiFed
+        ensures { λ r. ⌜ r ≡ advance self (sent «type_id» message (held (text .entry)) (held (payload .entry))) ⌝ }
+    {
+        let step = self.step;
+        match step {
+            PiStep::WaitStatus => self.wait_status(message),
+            PiStep::WaitDevInfo => self.wait_dev_info(message, text, payload),
+            PiStep::WaitParam0A => {
+                let action = Action::send(Command::CamConfigReq, BusAddr::Pi);
+                self.wait_param(PiStep::WaitCamConfig1, action, message)
+            }
+            PiStep::WaitCamConfig1 => self.wait_cam_config1(message),
+            PiStep::WaitCamConfig2 => self.wait_cam_config2(message),
+            PiStep::WaitNetConfig => self.wait_net_config(message),
+            PiStep::WaitNetConfigPw => self.wait_net_config_pw(message, text),
+            PiStep::WaitParams { idx } => self.wait_params(idx, message),
+            PiStep::Done => self.idle(),
+        }
+    }
+
+    // ---- the calls
+
+    pub fn new() -> PiStarted
+        ensures { λ r. ⌜ r ≡ begun ⌝ }
+    {
+        let action = Action::send(
+            Command::StatusPoll(StatusPoll { pi_mode: true }),
+            BusAddr::Pi,
+        );
+        let replies = PiReplies::none();
+        PiStarted {
+            action: action,
+            seq: PiSequencer {
+                step: PiStep::WaitStatus,
+                replies: replies,
+            },
+        }
+    }
+
+    pub fn feed(
+        self,
+        src: BusAddr,
+        type_id: u8,
+        message: Message,
+        text: &[u8],
+        payload: &[u8],
+    ) -> PiFed
+        ensures { λ r. ⌜ r ≡ fedTo self (record { src = src; type-id = «type_id»; message = message; params = []; text = held (text .entry); payload = held (payload .entry) }) ⌝ }
+    {
+        let outcome = sequence::accept_bytes(text, payload);
+        match outcome {
+            Outcome::Accepted => match src {
+                BusAddr::Pi => self.feed_pi(type_id, message, text, payload),
+                _ => self.idle(),
+            },
+            Outcome::Refused(refusal) => self.refuse(refusal),
+        }
+    }
+
+    // The result, once Done.
+    pub fn into_result(self) -> PiFinished
+        ensures { λ r. ⌜ r ≡ finished self ⌝ }
+    {
+        let step = self.step;
+        match step {
+            PiStep::Done => {
+                let sync = sync(self.replies);
+                PiFinished {
+                    outcome: Outcome::Accepted,
+                    sync: sync,
+                }
+            }
+            _ => {
+                let sync = sync(PiReplies::none());
+                PiFinished {
+                    outcome: Outcome::Refused(Refusal::NotDone),
+                    sync: sync,
+                }
+            }
+        }
+    }
+}

@@ -1,0 +1,169 @@
+// The calls of a Pi start-up, and what they answer.
+mod camera;
+mod stored;
+
+use device_calls::next::Turn;
+use device_calls::next::next;
+use pi::PiFed;
+use pi::PiSequencer;
+use pi::PiStep;
+use protocol::refusal::Outcome;
+use reading::bytes::BYTES;
+use reading::call::Call;
+use reading::call::Calls;
+use reading::call::Feed;
+use streams::INPUT;
+use streams::LONGER;
+use streams::Stream;
+use words::kinds::VALUES;
+use words::part;
+use writing::fields;
+use writing::send;
+use writing::write;
+use writing::write::OUT;
+
+// The start-up after a call, and the end of the answer.
+struct Answered {
+    pi: PiSequencer,
+    at: usize,
+}
+
+fn number_of(step: PiStep) -> usize {
+    match step {
+        PiStep::WaitStatus => 0,
+        PiStep::WaitDevInfo => 1,
+        PiStep::WaitParam0A => 2,
+        PiStep::WaitCamConfig1 => 3,
+        PiStep::WaitCamConfig2 => 4,
+        PiStep::WaitNetConfig => 5,
+        PiStep::WaitNetConfigPw => 6,
+        PiStep::WaitParams { idx: _ } => 7,
+        PiStep::Done => 8,
+    }
+}
+
+fn name(out: &mut [u8; OUT], at: usize, step: PiStep) -> usize {
+    let names =
+        b"WaitStatus WaitDevInfo WaitParam0A WaitCamConfig1 WaitCamConfig2 WaitNetConfig WaitNetConfigPw WaitParams Done";
+    let end = write::choice(out, at, number_of(step), names, b' ');
+    match step {
+        PiStep::WaitParams { idx } => fields::number(out, end, b"idx", idx as u64),
+        _ => end,
+    }
+}
+
+fn begin(out: &mut [u8; OUT], at: usize) -> Answered {
+    let started = PiSequencer::new();
+    let action = started.action;
+    let pi = started.seq;
+    let step = pi.step;
+    let end = send::sent(out, at, action);
+    Answered {
+        pi: pi,
+        at: name(out, end, step),
+    }
+}
+
+fn fed(out: &mut [u8; OUT], at: usize, fed: PiFed) -> Answered {
+    let outcome = fed.outcome;
+    let action = fed.action;
+    let pi = fed.seq;
+    let step = pi.step;
+    let end = send::fed(out, at, outcome, action);
+    Answered {
+        pi: pi,
+        at: name(out, end, step),
+    }
+}
+
+fn feed(
+    pi: PiSequencer,
+    feed: Feed,
+    values: &[u64; VALUES],
+    bytes: &[u8],
+    out: &mut [u8; OUT],
+    at: usize,
+) -> Answered {
+    let src = feed.src;
+    let message = messages::message(feed.kind, values);
+    let text = part(bytes, 0, feed.text);
+    let payload = part(bytes, feed.text, feed.payload);
+    fed(out, at, pi.feed(src, feed.type_id, message, text, payload))
+}
+
+fn result(pi: PiSequencer, out: &mut [u8; OUT], at: usize) -> usize {
+    let finished = pi.into_result();
+    let outcome = finished.outcome;
+    let end = send::outcome(out, at, outcome);
+    if let Outcome::Refused(_) = outcome {
+        return end;
+    }
+    let sync = finished.sync;
+    stored::sync(out, end, sync)
+}
+
+fn calls() -> Calls {
+    Calls {
+        feed: true,
+        check: false,
+        result: true,
+        take: false,
+    }
+}
+
+// A call of a start-up that has begun: `result`, where it is no other.
+fn call(
+    pi: PiSequencer,
+    call: Call,
+    values: &[u64; VALUES],
+    bytes: &[u8],
+    out: &mut [u8; OUT],
+    at: usize,
+) -> Answered {
+    match call {
+        Call::Feed(envelope) => feed(pi, envelope, values, bytes, out, at),
+        _ => Answered {
+            pi: pi,
+            at: result(pi, out, at),
+        },
+    }
+}
+
+// Ends an answer, with every stored field if they are asked for.
+fn end(pi: PiSequencer, stream: Stream, out: &mut [u8; OUT], at: usize) -> Stream {
+    if stream.with_state {
+        let replies = pi.replies;
+        let end = stored::state(out, at, replies);
+        return stream.answered(out, end);
+    }
+    stream.answered(out, at)
+}
+
+// A start-up from its beginning, whose number is written, to the beginning of the next sequence or the end of the list. The calls
+// are counted down, as reads are.
+pub fn run(
+    stream: Stream,
+    input: &mut [u8; INPUT],
+    line: &mut [u8; LONGER],
+    values: &mut [u64; VALUES],
+    bytes: &mut [u8; BYTES],
+    out: &mut [u8; OUT],
+) -> Turn {
+    let mut done = begin(out, stream.out);
+    let mut turn = Turn::without_call(stream);
+    let mut turns = u64::MAX;
+    loop {
+        let pi = done.pi;
+        let ended = end(pi, turn.stream, out, done.at);
+        turn = next(ended, calls(), input, line, values, bytes, out);
+        if turn.leaves() {
+            return turn;
+        }
+        let asked = turn.call;
+        done = call(pi, asked, values, bytes, out, turn.stream.out);
+        if turns == 0 {
+            return turn;
+        }
+        turns -= 1;
+    }
+}

@@ -1,0 +1,45 @@
+//! The Pi start-up.
+
+use crate::list::Which;
+use crate::protocol::handshake::DeviceModel;
+use crate::running::{Clock, Sequencer, Step, Waits};
+use crate::seq::PiSequencer;
+use crate::seq::inspect;
+use crate::write;
+
+impl Sequencer for PiSequencer {
+    const WHICH: Which = Which::Pi;
+
+    fn step(&self) -> Step {
+        let seq = inspect::pi(self);
+        Step {
+            name: seq.step,
+            index: seq.params.map(|(_, idx)| idx),
+        }
+    }
+
+    fn waits(&self) -> Waits {
+        Waits::default()
+    }
+
+    /// Only a Mevo has a Pi.
+    fn model(&self) -> Option<DeviceModel> {
+        Some(DeviceModel::Mevo)
+    }
+
+    fn result(&self, out: &mut String) {
+        let sync = inspect::done_pi(self).into_result();
+        write::dev_info(out, Some(&sync.dev_info));
+        write::cam_config(out, Some(&sync.cam_config));
+        write::bytes(out, "ssid", sync.ssid.as_bytes());
+        write::bytes(out, "password", sync.password.as_bytes());
+    }
+
+    fn state(&self, _clock: &Clock, out: &mut String) {
+        let seq = inspect::pi(self);
+        write::dev_info(out, seq.dev_info);
+        write::cam_config(out, seq.cam_config);
+        write::bytes(out, "ssid", seq.ssid.as_bytes());
+        write::bytes(out, "password", seq.password.as_bytes());
+    }
+}
