@@ -13,10 +13,7 @@ impl Sequencer for AvrSequencer {
     const WHICH: Which = Which::Avr;
 
     fn step(&self) -> Step {
-        Step {
-            name: inspect::avr(self).step,
-            index: None,
-        }
+        Step::plain(inspect::avr(self).step)
     }
 
     fn waits(&self) -> Waits {

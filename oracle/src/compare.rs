@@ -7,11 +7,17 @@ use std::thread;
 
 use crate::coverage::Coverage;
 use crate::front::Front;
-use crate::generate::{BadLines, Generator, Leaning};
+use crate::generate::{BadLines, Generator, LONG_ARM, Leaning};
 use crate::list::{self, Call, Which};
 
-/// The lines after which a list ends, with its last start-up.
+/// The lines after which a list ends, with its last sequence.
 pub const LIST_LINES: usize = 20_000;
+
+/// From so many calls on there is an arm with as many nacks as are counted.
+pub const LONG_ARM_CALLS: u64 = 250_000;
+
+/// The lines that cutting a list down may take in all.
+const SHRINK_LINES: usize = 20_000_000;
 
 /// Makes lists and the front end's answers to them.
 pub struct Source {
@@ -40,12 +46,23 @@ impl Source {
         }
     }
 
-    /// The next list: whole start-ups, but no more than so many calls.
+    /// For so many calls: with a long arm, if they are enough.
+    pub fn of_calls(calls: u64, seed: u64, leaning: Leaning, with_bad_lines: bool) -> Self {
+        let mut source = Source::new(seed, leaning, with_bad_lines);
+        if calls >= LONG_ARM_CALLS && leaning == LONG_ARM {
+            source.generator.long_arm();
+            source.coverage.long_arm = true;
+        }
+        source
+    }
+
+    /// The next list: whole sequences, but no more than so many calls.
     pub fn list(&mut self, lines: usize, calls: u64) -> List {
         let mut list = List::default();
         let mut front = Front::new(true);
         let end = self.coverage.calls + calls;
-        for line in self.bad_lines.as_ref().map_or(&[][..], BadLines::early) {
+        let early = self.bad_lines.as_ref().map(|bad| bad.early().to_vec());
+        for line in early.unwrap_or_default() {
             self.put(line.to_string(), &mut front, &mut list);
         }
         while self.coverage.calls < end && (list.lines.len() < lines || !self.generator.at_start())
@@ -59,6 +76,11 @@ impl Source {
             }
         }
         list
+    }
+
+    /// The bad lines of each kind that are still to be put in.
+    pub fn written_left(&self) -> &[String] {
+        &self.written
     }
 
     /// The written ones come first, and often.
@@ -139,9 +161,9 @@ impl Program {
         first: Difference,
     ) -> io::Result<(Vec<String>, Difference)> {
         let differs = |lines: &[String]| matches!(self.difference_of(lines), Ok(Some(_)));
-        let start_up = start_up_of(list, &first);
-        let lines = if differs(&start_up) {
-            start_up
+        let sequence = sequence_of(list, &first);
+        let lines = if differs(&sequence) {
+            sequence
         } else {
             list.lines.clone()
         };
@@ -186,8 +208,8 @@ fn difference(front: &str, program: &str) -> Option<Difference> {
     }
 }
 
-/// The start-up in which the first difference lies, up to its line.
-fn start_up_of(list: &List, difference: &Difference) -> Vec<String> {
+/// The sequence in which the first difference lies, up to its line.
+fn sequence_of(list: &List, difference: &Difference) -> Vec<String> {
     let answer = difference.front.as_deref().unwrap_or("");
     let number = answer.split_once(':').and_then(|(n, _)| n.parse().ok());
     let end: usize = number.unwrap_or(list.lines.len());
@@ -200,14 +222,20 @@ fn start_up_of(list: &List, difference: &Difference) -> Vec<String> {
 }
 
 /// Leaves out lines, first many at a time and then one by one, as long as
-/// the rest still differs.
+/// the rest still differs. Of a long list that differs only as a whole it
+/// tries not all.
 pub fn shrink(mut lines: Vec<String>, differs: impl Fn(&[String]) -> bool) -> Vec<String> {
     let mut size = lines.len().div_ceil(2).max(1);
+    let mut tried = 0;
     loop {
         let (mut at, before) = (0, lines.len());
         while at < lines.len() {
             let mut rest = lines.clone();
             rest.drain(at..(at + size).min(lines.len()));
+            tried += rest.len();
+            if tried > SHRINK_LINES {
+                return lines;
+            }
             if differs(&rest) {
                 lines = rest;
             } else {

@@ -14,10 +14,7 @@ impl Sequencer for DspSequencer {
     const WHICH: Which = Which::Dsp;
 
     fn step(&self) -> Step {
-        Step {
-            name: inspect::dsp(self).step,
-            index: None,
-        }
+        Step::plain(inspect::dsp(self).step)
     }
 
     fn waits(&self) -> Waits {

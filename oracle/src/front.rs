@@ -8,9 +8,10 @@ use crate::conn::Envelope;
 use crate::list::{self, Bad, Begin, Call};
 use crate::protocol::Message;
 use crate::protocol::handshake::{DevInfoResp, DeviceModel};
-use crate::running::{Run, Running, View};
-use crate::seq::{self, AvrSequencer, DspSequencer, PiSequencer};
-use crate::write;
+use crate::running::{Run, Running, Sequencer, View};
+use crate::seq::{self, Action};
+use crate::seq::{ArmSequencer, AvrSequencer, DisarmSequencer, DspSequencer, PiSequencer};
+use crate::{avr_config, write};
 
 /// The state between two lines of a list.
 pub struct Front {
@@ -54,7 +55,7 @@ impl Front {
 
     fn call(&mut self, call: &Call, out: &mut String) {
         match call {
-            Call::Begin(begin) => self.begin(*begin, out),
+            Call::Begin(begin) => self.begin(begin, out),
             Call::Ack {
                 model,
                 src,
@@ -66,6 +67,7 @@ impl Front {
             Call::Check { now } => self.sequence().check(*now, out),
             Call::Result => self.sequence().result(out),
             Call::Take => self.sequence().take(out),
+            Call::Retries => self.sequence().retries(out),
         }
         if self.with_state {
             out.push_str("; state");
@@ -77,18 +79,26 @@ impl Front {
         self.running.as_deref_mut().expect("a sequence has begun")
     }
 
-    fn begin(&mut self, begin: Begin, out: &mut String) {
+    fn begin(&mut self, begin: &Begin, out: &mut String) {
         let base = self.base;
-        let begun: Box<dyn Running> = match begin {
-            Begin::Dsp => Box::new(Run::begin(DspSequencer::new(), base, out)),
-            Begin::Avr(None) => Box::new(Run::begin(AvrSequencer::new(), base, out)),
-            Begin::Avr(Some(model)) => {
-                Box::new(Run::begin(AvrSequencer::new_for(model), base, out))
-            }
-            Begin::Pi => Box::new(Run::begin(PiSequencer::new(), base, out)),
-        };
-        self.running = Some(begun);
+        self.running = Some(match begin {
+            Begin::Dsp => begun(DspSequencer::new(), base, out),
+            Begin::Avr(None) => begun(AvrSequencer::new(), base, out),
+            Begin::Avr(Some(model)) => begun(AvrSequencer::new_for(*model), base, out),
+            Begin::Pi => begun(PiSequencer::new(), base, out),
+            Begin::AvrConfig(settings) => Box::new(avr_config::begin(settings, base, out)),
+            Begin::Disarm => begun(DisarmSequencer::new(), base, out),
+            Begin::Arm(None) => begun(ArmSequencer::new(), base, out),
+            Begin::Arm(Some(model)) => begun(ArmSequencer::new_for(*model), base, out),
+        });
     }
+}
+
+fn begun<S>(new: (S, Vec<Action>), base: Instant, out: &mut String) -> Box<dyn Running>
+where
+    S: Sequencer + 'static,
+{
+    Box::new(Run::begin(new, base, out))
 }
 
 /// Answers every line of a list.

@@ -19,9 +19,12 @@ pub mod frame;
 // pub mod seq, from build.rs
 include!(concat!(env!("OUT_DIR"), "/modules.rs"));
 
+mod arm;
 mod avr;
+mod avr_config;
 pub mod compare;
 pub mod coverage;
+mod disarm;
 mod dsp;
 pub mod front;
 pub mod generate;

@@ -1,8 +1,7 @@
 //! The Pi start-up.
 
 use crate::list::Which;
-use crate::protocol::handshake::DeviceModel;
-use crate::running::{Clock, Sequencer, Step, Waits};
+use crate::running::{Clock, Fields, Sequencer, Step};
 use crate::seq::PiSequencer;
 use crate::seq::inspect;
 use crate::write;
@@ -12,19 +11,11 @@ impl Sequencer for PiSequencer {
 
     fn step(&self) -> Step {
         let seq = inspect::pi(self);
+        let idx = seq.params.map(|(_, idx)| Fields::Idx(idx));
         Step {
             name: seq.step,
-            index: seq.params.map(|(_, idx)| idx),
+            fields: idx.unwrap_or(Fields::None),
         }
-    }
-
-    fn waits(&self) -> Waits {
-        Waits::default()
-    }
-
-    /// Only a Mevo has a Pi.
-    fn model(&self) -> Option<DeviceModel> {
-        Some(DeviceModel::Mevo)
     }
 
     fn result(&self, out: &mut String) {

@@ -30,3 +30,19 @@ pub fn of_reading(now: u64, last: u64) -> Option<u8> {
 
 /// A result asked for before Done.
 pub const NOT_DONE: u8 = 12;
+
+/// The most parameters of a settings list.
+pub const MOST_PARAMS: usize = 32;
+
+/// The number of a settings list with so many parameters.
+pub fn of_settings(params: usize) -> Option<u8> {
+    (params > MOST_PARAMS).then_some(4)
+}
+
+/// The most nacks that an arm counts.
+pub const MOST_RETRIES: u16 = 65_535;
+
+/// The number of a nack that an arm with so many would count.
+pub fn of_counted_nack(retries: u16) -> Option<u8> {
+    (retries == MOST_RETRIES).then_some(13)
+}

@@ -17,6 +17,7 @@ pub trait Running {
     fn check(&mut self, now: u64, out: &mut String);
     fn result(&self, out: &mut String);
     fn take(&mut self, out: &mut String);
+    fn retries(&self, out: &mut String);
     /// Every stored field, each after a blank.
     fn state(&self, out: &mut String);
     fn which(&self) -> Which;
@@ -36,13 +37,48 @@ pub struct View {
     pub repoll: Option<u64>,
     /// The model, as soon as it is known.
     pub model: Option<DeviceModel>,
+    /// What a settings run awaits back.
+    pub echoes: Option<Echoes>,
+    /// How many nacks an arm has counted.
+    pub retries: Option<u16>,
 }
 
-/// A step's name in seq.rs, and its index if it has one.
+/// A step's name in seq.rs, and its fields.
 #[derive(Debug, Clone, Copy, PartialEq)]
 pub struct Step {
     pub name: &'static str,
-    pub index: Option<usize>,
+    pub fields: Fields,
+}
+
+#[derive(Debug, Clone, Copy, PartialEq)]
+pub enum Fields {
+    None,
+    /// Of the Pi's reads.
+    Idx(usize),
+    /// Of the two steps of a parameter.
+    ParamIdx(usize),
+    /// Of an arm's last step.
+    Got {
+        pi: bool,
+        armed: bool,
+    },
+}
+
+impl Step {
+    /// Without fields.
+    pub fn plain(name: &'static str) -> Self {
+        Step {
+            name,
+            fields: Fields::None,
+        }
+    }
+}
+
+/// The mode of a settings run, and the range and height of its calibration.
+#[derive(Clone, Copy)]
+pub struct Echoes {
+    pub mode: u8,
+    pub radar_cal: Option<(u16, u8)>,
 }
 
 /// What a check waits for.
@@ -56,8 +92,24 @@ pub struct Waits {
 pub trait Sequencer: Sequence {
     const WHICH: Which;
     fn step(&self) -> Step;
-    fn waits(&self) -> Waits;
-    fn model(&self) -> Option<DeviceModel>;
+
+    fn waits(&self) -> Waits {
+        Waits::default()
+    }
+
+    fn model(&self) -> Option<DeviceModel> {
+        None
+    }
+
+    fn echoes(&self) -> Option<Echoes> {
+        None
+    }
+
+    /// The number with which this state declines a feed that no number of
+    /// its bytes and its reading does.
+    fn refusal(&self, _feed: &Feed) -> Option<u8> {
+        None
+    }
 
     fn check(&mut self, _now: Instant) -> Vec<Action> {
         unreachable!("not a call of this sequence")
@@ -67,8 +119,14 @@ pub trait Sequencer: Sequence {
         unreachable!("not a call of this sequence")
     }
 
+    fn retries(&self) -> Option<u16> {
+        None
+    }
+
     /// Every field of the result, each after a blank. Asked for at Done.
-    fn result(&self, out: &mut String);
+    fn result(&self, _out: &mut String) {
+        unreachable!("not a call of this sequence")
+    }
 
     /// Every stored field, each after a blank.
     fn state(&self, clock: &Clock, out: &mut String);
@@ -100,14 +158,25 @@ pub struct Run<S> {
 }
 
 impl<S: Sequencer> Run<S> {
-    /// Writes the answer of the call that begins it.
-    pub fn begin((seq, first): (S, Vec<Action>), base: Instant, out: &mut String) -> Self {
-        write::sends(out, &first);
-        write::step(out, seq.step());
+    fn new(seq: S, base: Instant) -> Self {
         Run {
             seq,
             clock: Clock { base, last: 0 },
         }
+    }
+
+    /// Writes the answer of the call that begins it.
+    pub fn begin((seq, first): (S, Vec<Action>), base: Instant, out: &mut String) -> Self {
+        write::sends(out, &first);
+        write::step(out, seq.step());
+        Run::new(seq, base)
+    }
+
+    /// The same where the call was refused, and this runs in its place.
+    pub fn begin_refused(number: u8, seq: S, base: Instant, out: &mut String) -> Self {
+        let run = Run::new(seq, base);
+        run.refused(number, out);
+        run
     }
 
     fn refusal_of_reading(&self, now: u64) -> Option<u8> {
@@ -134,8 +203,10 @@ impl<S: Sequencer> Run<S> {
 
 impl<S: Sequencer> Running for Run<S> {
     fn feed(&mut self, feed: &Feed, out: &mut String) {
-        let bytes = refusal::of_bytes(&feed.text, &feed.payload);
-        if let Some(number) = bytes.or(self.refusal_of_reading(feed.now)) {
+        let refusal = refusal::of_bytes(&feed.text, &feed.payload)
+            .or(self.refusal_of_reading(feed.now))
+            .or(self.seq.refusal(feed));
+        if let Some(number) = refusal {
             return self.refused(number, out);
         }
         let (now, wall) = (self.clock.at(feed.now), wall(feed.wall));
@@ -170,6 +241,11 @@ impl<S: Sequencer> Running for Run<S> {
         }
     }
 
+    fn retries(&self, out: &mut String) {
+        let retries = self.seq.retries().expect("a call of this sequence");
+        write::decimal(out, retries);
+    }
+
     fn state(&self, out: &mut String) {
         if S::WHICH.has_clock() {
             write::number(out, "last", self.clock.last);
@@ -191,6 +267,8 @@ impl<S: Sequencer> Running for Run<S> {
             deadline: self.clock.reading(waits.repoll.or(waits.deadline)),
             repoll: self.clock.reading(waits.repoll),
             model: self.seq.model(),
+            echoes: self.seq.echoes(),
+            retries: self.seq.retries(),
         }
     }
 }

@@ -2,7 +2,8 @@
 
 use oracle::list::{self, Bad, Call, LONGEST, Reason, Which};
 
-/// Reads a line while the DSP's start-up runs, which has every call.
+/// Reads a line while the DSP's start-up runs, which has every call but
+/// `retries`.
 fn read(line: &str) -> Result<Option<Call>, Bad> {
     list::read(line.as_bytes(), Some(Which::Dsp))
 }
@@ -148,13 +149,21 @@ fn ends() {
 
 #[test]
 fn no_sequence() {
-    for line in ["feed", "check x", " result", "take it"] {
+    for line in [
+        "feed",
+        "check x",
+        " result",
+        "take it",
+        "retries",
+        "\tretries 1",
+    ] {
         let bad = list::read(line.as_bytes(), None).err().expect(line);
         assert_eq!((bad.column, bad.reason), (1, Reason::NoSequence));
     }
-    let begins = ["dsp", "avr", "avr Xi", "pi"];
+    let begins = ["dsp", "avr", "avr Xi", "pi", "disarm", "arm", "arm Xi"];
+    let settings = ["avr_config mode=1", "mode_only mode=1"];
     let others = ["ack Xi Avr 1", "keepalive", "model", "# feed"];
-    for line in begins.iter().chain(&others) {
+    for line in begins.iter().chain(&settings).chain(&others) {
         assert!(list::read(line.as_bytes(), None).is_ok(), "{line}");
     }
 }
@@ -168,17 +177,41 @@ fn not_of_the_sequence() {
             "bad line at column 1: not a call of this sequence"
         ),
     };
+    let without = |has: fn(Which) -> bool| Which::ALL.into_iter().filter(move |w| !has(*w));
+    let others = [Which::AvrConfig, Which::Disarm, Which::Arm];
     for line in ["take", "  take", "take it"] {
-        refused(Which::Avr, line);
-        refused(Which::Pi, line);
+        without(|which| which == Which::Dsp).for_each(|which| refused(which, line));
     }
     for line in ["check 1", "\tcheck", "check x", "check 1 2"] {
         refused(Which::Pi, line);
+        others.into_iter().for_each(|which| refused(which, line));
     }
-    for line in ["feed 1 Pi 2 PiStatus", "result"] {
-        assert!(list::read(line.as_bytes(), Some(Which::Pi)).is_ok());
+    for line in ["result", " result", "result x"] {
+        others.into_iter().for_each(|which| refused(which, line));
     }
-    assert!(list::read(b"check 1", Some(Which::Avr)).is_ok());
+    for line in ["retries", "\tretries", "retries x"] {
+        without(|which| which == Which::Arm).for_each(|which| refused(which, line));
+    }
+}
+
+#[test]
+fn of_the_sequence() {
+    let read = |which, line: &str| list::read(line.as_bytes(), Some(which)).is_ok();
+    for which in Which::ALL {
+        assert!(read(which, "feed 1 Pi 2 PiStatus"));
+    }
+    for which in [Which::Dsp, Which::Avr, Which::Pi] {
+        assert!(read(which, "result"));
+    }
+    assert!(read(Which::Dsp, "check 1"));
+    assert!(read(Which::Avr, "check 1"));
+    assert!(read(Which::Dsp, "take"));
+    assert!(read(Which::Arm, " retries "));
+    let extra = list::read(b"retries 1", Some(Which::Arm)).err().unwrap();
+    assert_eq!(
+        extra.to_string(),
+        "bad line at column 9: end of line expected"
+    );
 }
 
 #[test]
@@ -193,6 +226,167 @@ fn begins() {
     good("avr \t");
     good("avr Mevo");
     good("pi\r");
+    check("disarm Xi", 8, "end of line expected");
+    check("disarms", 1, "unknown call");
+    check(" Disarm", 2, "unknown call");
+    check("arm Meva", 5, "unknown model");
+    check("arm  xi", 6, "unknown model");
+    check("arm Xi Xi", 8, "end of line expected");
+    check("arms", 1, "unknown call");
+    check("avr_configs mode=9", 1, "unknown call");
+    check("mode_onl mode=9", 1, "unknown call");
+    check(" Mevo_settings mode=9", 2, "unknown call");
+    check("retries=1", 1, "unknown call");
+    good("disarm ");
+    good("arm");
+    good("arm Mevo\r");
+}
+
+#[test]
+fn settings() {
+    check("avr_config", 11, "mode= expected");
+    check("avr_config  ", 13, "mode= expected");
+    check("avr_config 9", 12, "mode= expected");
+    check("avr_config mode =9", 12, "mode= expected");
+    check("avr_config param_id=1 int24=1 mode=9", 12, "mode= expected");
+    check("avr_config mode=", 17, "not a number");
+    check("avr_config mode= 9", 17, "not a number");
+    check("avr_config mode=256", 17, "out of range");
+    for word in [
+        "x",
+        "mode=9",
+        "param_id",
+        "param_id =1",
+        "int24=1",
+        "height_mm=1",
+        "wall=1",
+    ] {
+        check(
+            &format!("avr_config mode=9 {word}"),
+            19,
+            "end of line expected",
+        );
+        check(
+            &format!("avr_config mode=9  {word}"),
+            20,
+            "end of line expected",
+        );
+    }
+    good("avr_config mode=9");
+    good("avr_config mode=9 param_id=0xFF int24=-1 ");
+}
+
+#[test]
+fn parameters() {
+    let param = "avr_config mode=9 param_id=1";
+    check("avr_config mode=9 param_id= int24=1", 28, "not a number");
+    check("avr_config mode=9 param_id=256 int24=1", 28, "out of range");
+    check(param, 29, "int24= expected");
+    check(&format!("{param} x"), 30, "int24= expected");
+    check(&format!("{param} float4=1"), 30, "int24= expected");
+    check(
+        &format!("{param} param_id=2 int24=1"),
+        30,
+        "int24= expected",
+    );
+    check(
+        &format!("{param} range_mm=1 height_mm=1"),
+        30,
+        "int24= expected",
+    );
+    check(&format!("{param} int24=0x80000000"), 36, "out of range");
+    check(&format!("{param} int24=1-"), 36, "not a number");
+    check(&format!("{param} float40=1.5"), 38, "not a float");
+    let nan = "a NaN can't be read";
+    check(&format!("{param} float40=0x7FF8000000000000"), 38, nan);
+    let two = format!("{param} int24=1 param_id=2 float40=0x3FF8000000000000");
+    check(&format!("{two} int24=1"), 76, "end of line expected");
+    good(&two);
+    good(&format!("{two} range_mm=1 height_mm=1"));
+}
+
+/// Those past the 32nd are judged, too.
+#[test]
+fn many_parameters() {
+    let many = |count: usize| format!("avr_config mode=9{}", " param_id=1 int24=1".repeat(count));
+    for count in [32, 33, 40, 3_000] {
+        good(&many(count));
+        let column = many(count).len() + 19;
+        check(
+            &format!("{} param_id=1 int24=x", many(count)),
+            column,
+            "not a number",
+        );
+        let column = many(count).len() + 2;
+        check(
+            &format!("{} x", many(count)),
+            column,
+            "end of line expected",
+        );
+    }
+}
+
+#[test]
+fn calibrations() {
+    let range = "avr_config mode=9 range_mm=1";
+    check(range, 29, "height_mm= expected");
+    check(
+        &format!("{range} param_id=1 int24=1"),
+        30,
+        "height_mm= expected",
+    );
+    check(
+        "avr_config mode=9 range_mm=65536 height_mm=1",
+        28,
+        "out of range",
+    );
+    check(&format!("{range} height_mm=256"), 40, "out of range");
+    check(&format!("{range} height_mm="), 40, "not a number");
+    let both = format!("{range} height_mm=1");
+    check(
+        &format!("{both} param_id=1 int24=1"),
+        42,
+        "end of line expected",
+    );
+    check(
+        &format!("{both} range_mm=1 height_mm=1"),
+        42,
+        "end of line expected",
+    );
+    good(&both);
+}
+
+#[test]
+fn other_settings() {
+    check("mode_only", 10, "mode= expected");
+    check("mode_only 9", 11, "mode= expected");
+    check("mode_only mode=-1", 16, "not a number");
+    check(
+        "mode_only mode=9 param_id=1 int24=1",
+        18,
+        "end of line expected",
+    );
+    good("mode_only mode=0x09");
+    check("mevo_settings", 14, "mode= expected");
+    check("mevo_settings ball_type=1 mode=9", 15, "mode= expected");
+    check("mevo_settings mode=9", 21, "ball_type= expected");
+    let ball = "mevo_settings mode=9 ball_type=1";
+    check(
+        &format!("{ball} tee_height_m=0"),
+        34,
+        "track_fraction= expected",
+    );
+    check(&format!("{ball} track_fraction=0.8"), 49, "not a float");
+    let track = format!("{ball} track_fraction=0x3FE999999999999A");
+    check(&track, 67, "tee_height_m= expected");
+    let nan = "a NaN can't be read";
+    check(&format!("{track} tee_height_m=0xFFF8000000000000"), 81, nan);
+    let tee = format!("{track} tee_height_m=0x3FA3A92A30553261");
+    check(&tee, 99, "range_mm= expected");
+    check(&format!("{tee} range_mm=1"), 110, "height_mm= expected");
+    let all = format!("{tee} range_mm=1 height_mm=2");
+    check(&format!("{all} x"), 123, "end of line expected");
+    good(&all);
 }
 
 #[test]

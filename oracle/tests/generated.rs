@@ -1,8 +1,10 @@
 //! Lists from a seed, and the shrinking of a list.
 
-use oracle::compare::{Source, front_answers, shrink};
+use std::cell::Cell;
+
+use oracle::compare::{LIST_LINES, LONG_ARM_CALLS, Source, front_answers, shrink};
 use oracle::coverage::Coverage;
-use oracle::generate::LEANINGS;
+use oracle::generate::{LEANINGS, LONG_ARM, Leaning};
 use oracle::list::{self, Call, Which};
 
 #[test]
@@ -43,20 +45,68 @@ fn everything_is_met() {
     }
 }
 
+/// The first words of a list with bad lines.
+fn first_words(leaning: Leaning) -> Vec<String> {
+    let list = Source::new(9, leaning, true).list(usize::MAX, 5_000);
+    let first = |line: &String| line.split_whitespace().next().map(String::from);
+    list.lines.iter().filter_map(first).collect()
+}
+
 /// A port that has the DSP alone can be compared, too.
 #[test]
 fn lists_of_the_dsp_have_no_other_words() {
     for leaning in LEANINGS.into_iter().filter(|l| l.which == Which::Dsp) {
+        let words = first_words(leaning);
+        assert!(!words.iter().any(|word| word == "avr" || word == "pi"));
         let list = Source::new(9, leaning, true).list(usize::MAX, 5_000);
-        let first = |line: &&String| line.split_whitespace().next().unwrap_or("").to_string();
-        assert!(
-            !list
-                .lines
-                .iter()
-                .any(|line| ["avr", "pi"].contains(&&first(&line)[..]))
-        );
         assert!(!list.lines.iter().any(|line| line.contains(" wall=")));
     }
+}
+
+/// So can one that has the start-ups alone.
+#[test]
+fn lists_of_start_ups_have_no_other_words() {
+    let others = [
+        "avr_config",
+        "mode_only",
+        "mevo_settings",
+        "disarm",
+        "arm",
+        "retries",
+    ];
+    for leaning in LEANINGS {
+        let words = first_words(leaning);
+        let found = others
+            .iter()
+            .filter(|word| words.iter().any(|w| w == *word));
+        let expected = if leaning.which.is_start_up() {
+            0
+        } else {
+            others.len()
+        };
+        assert_eq!(found.count(), expected, "{}", leaning.which.word());
+    }
+}
+
+/// What a long arm meets is demanded where there is one, and met.
+#[test]
+fn a_long_arm() {
+    let mut source = Source::of_calls(LONG_ARM_CALLS, 5, LONG_ARM, false);
+    let begun = source.list(LIST_LINES, 1_000);
+    assert!(begun.lines[1_000 - 1].starts_with("feed 0 "));
+    let missing = source.coverage.missing(&[Which::Arm]);
+    for name in ["retries 65535", "refused 13", "ConfigAck after 65535 nacks"] {
+        assert!(missing.contains(&format!("arm: {name}")));
+    }
+    let mut source = Source::of_calls(LONG_ARM_CALLS, 5, LONG_ARM, false);
+    let lines = source.list(LIST_LINES, LONG_ARM_CALLS).lines.len();
+    assert!((196_605..198_000).contains(&lines), "{lines}");
+    let missing = source.coverage.missing(&[Which::Arm]);
+    assert!(!missing.iter().any(|name| name.contains("65535")));
+    assert!(!missing.contains(&"arm: refused 13".to_string()));
+    let mut source = Source::of_calls(LONG_ARM_CALLS - 1, 5, LONG_ARM, false);
+    assert!(source.list(LIST_LINES, LONG_ARM_CALLS).lines.len() < 21_000);
+    assert!(!source.coverage.long_arm);
 }
 
 #[test]
@@ -65,4 +115,17 @@ fn shrinking_leaves_what_differs() {
     let has = |lines: &[String], n: &str| lines.iter().any(|line| line == n);
     let left = shrink(lines, |lines| has(lines, "3") && has(lines, "41"));
     assert_eq!(left, ["3", "41"]);
+}
+
+/// A long arm that differs only as a whole isn't tried line by line.
+#[test]
+fn shrinking_comes_to_an_end() {
+    let lines: Vec<String> = (0..200_000).map(|n| n.to_string()).collect();
+    let tried = Cell::new(0);
+    let whole = |lines: &[String]| {
+        tried.set(tried.get() + 1);
+        lines.len() == 200_000
+    };
+    assert_eq!(shrink(lines.clone(), whole), lines);
+    assert!(tried.get() < 200, "{}", tried.get());
 }

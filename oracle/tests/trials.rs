@@ -5,10 +5,13 @@ use std::time::{Duration, Instant, UNIX_EPOCH};
 
 use oracle::addr::BusAddr;
 use oracle::conn::Envelope;
+use oracle::protocol::config::{ModeSet, ParamData, ParamValue, RadarCal};
 use oracle::protocol::handshake::{DevInfoResp, DeviceModel};
-use oracle::protocol::status::{ConfigAck, DspStatus, DspStatus46};
+use oracle::protocol::status::{AvrStatus, ConfigAck, DspStatus, DspStatus46, Text};
 use oracle::protocol::{Command, Message};
+use oracle::refusal;
 use oracle::seq::{self, Action, DspSequencer, Sequence, inspect};
+use oracle::seq::{ArmSequencer, AvrConfigSequencer, AvrSettings};
 
 fn model(payload: &str) -> DeviceModel {
     DeviceModel::from_dev_info(&DevInfoResp {
@@ -116,6 +119,85 @@ fn dsp_query_unanswered() {
         [Action::Send(Command::DevInfoReq, BusAddr::Dsp)]
     ));
     assert_eq!(inspect::dsp(&dsp).step, "WaitDevInfo");
+}
+
+fn from_avr(message: Message) -> Envelope {
+    envelope(BusAddr::Avr, 0, message)
+}
+
+fn config_ack() -> Message {
+    Message::ConfigAck(ConfigAck {
+        bus_addr: 0x30,
+        acked_cmd: 0x30,
+    })
+}
+
+fn radar_cal() -> RadarCal {
+    RadarCal {
+        range_mm: 2438,
+        height_mm: 25,
+    }
+}
+
+/// The sends of a whole settings run: every reply is fed until it is done.
+fn settings_sends(params: usize, radar_cal: Option<RadarCal>) -> usize {
+    let param = |id| ParamValue {
+        param_id: id as u8,
+        value: ParamData::Int24(1),
+    };
+    let (mut seq, first) = AvrConfigSequencer::new(AvrSettings {
+        mode: 9,
+        params: (0..params).map(param).collect(),
+        radar_cal,
+    });
+    let mode = Message::ModeSet(ModeSet { mode: 9 });
+    let replies = [config_ack(), mode, Message::RadarCal(self::radar_cal())].map(from_avr);
+    let (now, mut sends) = (Instant::now(), first.len());
+    for reply in replies.iter().cycle().take(1_000) {
+        sends += seq.feed(reply, now, UNIX_EPOCH).len();
+    }
+    assert!(seq.is_complete());
+    sends
+}
+
+#[test]
+fn sends_of_a_settings_run() {
+    assert_eq!(settings_sends(0, None), 3);
+    assert_eq!(settings_sends(32, Some(radar_cal())), 69);
+    // The Rust takes any number of parameters.
+    assert_eq!(settings_sends(33, Some(radar_cal())), 71);
+    assert_eq!(refusal::of_settings(32), None);
+    assert_eq!(refusal::of_settings(33), Some(4));
+}
+
+/// Whether a Xi at the last step is armed by a text.
+fn armed_by(text: &str) -> bool {
+    let now = Instant::now();
+    let (mut seq, first) = ArmSequencer::new_for(DeviceModel::Xi);
+    assert_eq!(polls(first), [(BusAddr::Dsp, false)]);
+    let status = AvrStatus {
+        version: 24,
+        state: 0,
+        hw_id_hi: 0,
+        hw_id_lo: 0,
+        full_app_id: 0,
+        temperature: 0.0,
+        tilt: 0.0,
+        roll: 0.0,
+    };
+    seq.feed(&dsp_status(), now, UNIX_EPOCH);
+    seq.feed(&from_avr(Message::AvrStatus(status)), now, UNIX_EPOCH);
+    seq.feed(&from_avr(config_ack()), now, UNIX_EPOCH);
+    assert_eq!(inspect::arm(&seq).step, "WaitPiAndArmed");
+    let text = Message::Text(Text { text: text.into() });
+    seq.feed(&from_avr(text), now, UNIX_EPOCH);
+    seq.is_complete()
+}
+
+#[test]
+fn texts_of_an_arm() {
+    assert!(armed_by("DISARMED"));
+    assert!(!armed_by("ARMED CANCELLED"));
 }
 
 fn in_package(file: &str) -> String {

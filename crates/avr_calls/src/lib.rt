@@ -21,6 +21,14 @@ use writing::send;
 use writing::write;
 use writing::write::OUT;
 
+const CALLS: Calls = Calls {
+    feed: true,
+    check: true,
+    result: true,
+    take: false,
+    retries: false,
+};
+
 // The start-up after a call, and the end of the answer.
 struct Answered {
     avr: AvrSequencer,
@@ -83,7 +91,7 @@ fn feed(
     avr: AvrSequencer,
     feed: Feed,
     values: &[u64; VALUES],
-    bytes: &[u8],
+    bytes: &[u8; BYTES],
     out: &mut [u8; OUT],
     at: usize,
 ) -> Answered {
@@ -120,25 +128,18 @@ fn result(avr: AvrSequencer, out: &mut [u8; OUT], at: usize) -> usize {
     stored::sync(out, end, sync)
 }
 
-fn calls() -> Calls {
-    Calls {
-        feed: true,
-        check: true,
-        result: true,
-        take: false,
-    }
-}
-
 // A call of a start-up that has begun: `result`, where it is no other.
 fn call(
-    avr: AvrSequencer,
-    call: Call,
+    done: Answered,
+    turn: Turn,
     values: &[u64; VALUES],
-    bytes: &[u8],
+    bytes: &[u8; BYTES],
     out: &mut [u8; OUT],
-    at: usize,
 ) -> Answered {
-    match call {
+    let avr = done.avr;
+    let at = turn.stream.out;
+    let asked = turn.call;
+    match asked {
         Call::Feed(envelope) => feed(avr, envelope, values, bytes, out, at),
         Call::Check(now) => check(avr, now, out, at),
         _ => Answered {
@@ -149,13 +150,14 @@ fn call(
 }
 
 // Ends an answer, with every stored field if they are asked for.
-fn end(avr: AvrSequencer, stream: Stream, out: &mut [u8; OUT], at: usize) -> Stream {
+fn end(done: Answered, stream: Stream, out: &mut [u8; OUT]) -> Stream {
     if stream.with_state {
+        let avr = done.avr;
         let state = avr.state;
-        let end = stored::state(out, at, avr.last, state);
+        let end = stored::state(out, done.at, avr.last, state);
         return stream.answered(out, end);
     }
-    stream.answered(out, at)
+    stream.answered(out, done.at)
 }
 
 // A start-up from its beginning, whose number is written, to the beginning of the next sequence or the end of the list. The calls
@@ -173,14 +175,12 @@ pub fn run(
     let mut turn = Turn::without_call(stream);
     let mut turns = u64::MAX;
     loop {
-        let avr = done.avr;
-        let ended = end(avr, turn.stream, out, done.at);
-        turn = next(ended, calls(), input, line, values, bytes, out);
+        let ended = end(done, turn.stream, out);
+        turn = next(ended, CALLS, input, line, values, bytes, out);
         if turn.leaves() {
             return turn;
         }
-        let asked = turn.call;
-        done = call(avr, asked, values, bytes, out, turn.stream.out);
+        done = call(done, turn, values, bytes, out);
         if turns == 0 {
             return turn;
         }

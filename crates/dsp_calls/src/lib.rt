@@ -20,6 +20,14 @@ use writing::send;
 use writing::write;
 use writing::write::OUT;
 
+const CALLS: Calls = Calls {
+    feed: true,
+    check: true,
+    result: true,
+    take: true,
+    retries: false,
+};
+
 // The start-up after a call, and the end of the answer.
 struct Answered {
     dsp: DspSequencer,
@@ -77,7 +85,7 @@ fn feed(
     dsp: DspSequencer,
     feed: Feed,
     values: &[u64; VALUES],
-    bytes: &[u8],
+    bytes: &[u8; BYTES],
     out: &mut [u8; OUT],
     at: usize,
 ) -> Answered {
@@ -120,14 +128,16 @@ fn take(dsp: DspSequencer, out: &mut [u8; OUT], at: usize) -> Answered {
 
 // A call of a start-up that has begun: `take`, where it is no other.
 fn call(
-    dsp: DspSequencer,
-    call: Call,
+    done: Answered,
+    turn: Turn,
     values: &[u64; VALUES],
-    bytes: &[u8],
+    bytes: &[u8; BYTES],
     out: &mut [u8; OUT],
-    at: usize,
 ) -> Answered {
-    match call {
+    let dsp = done.dsp;
+    let at = turn.stream.out;
+    let asked = turn.call;
+    match asked {
         Call::Feed(envelope) => feed(dsp, envelope, values, bytes, out, at),
         Call::Check(now) => check(dsp, now, out, at),
         Call::Result => Answered {
@@ -139,15 +149,16 @@ fn call(
 }
 
 // Ends an answer, with every stored field if they are asked for.
-fn end(dsp: DspSequencer, stream: Stream, out: &mut [u8; OUT], at: usize) -> Stream {
+fn end(done: Answered, stream: Stream, out: &mut [u8; OUT]) -> Stream {
     if stream.with_state {
+        let dsp = done.dsp;
         let state = dsp.state;
         let replies = state.replies;
         let deadline = state.deadline;
-        let end = stored::state(out, at, dsp.last, replies, deadline);
+        let end = stored::state(out, done.at, dsp.last, replies, deadline);
         return stream.answered(out, end);
     }
-    stream.answered(out, at)
+    stream.answered(out, done.at)
 }
 
 // A start-up from its beginning, whose number is written, to the beginning of the next sequence or the end of the list. The calls
@@ -164,14 +175,12 @@ pub fn run(
     let mut turn = Turn::without_call(stream);
     let mut turns = u64::MAX;
     loop {
-        let dsp = done.dsp;
-        let ended = end(dsp, turn.stream, out, done.at);
-        turn = next(ended, Calls::all(), input, line, values, bytes, out);
+        let ended = end(done, turn.stream, out);
+        turn = next(ended, CALLS, input, line, values, bytes, out);
         if turn.leaves() {
             return turn;
         }
-        let asked = turn.call;
-        done = call(dsp, asked, values, bytes, out, turn.stream.out);
+        done = call(done, turn, values, bytes, out);
         if turns == 0 {
             return turn;
         }

@@ -4,7 +4,7 @@ use device_calls::next::Turn;
 use device_calls::next::next;
 use reading::bytes::BYTES;
 use reading::call::Call;
-use reading::call::Calls;
+use reading::call::NO_CALLS;
 use reading::call::Sequence;
 use streams::INPUT;
 use streams::LONGER;
@@ -26,6 +26,11 @@ fn run(
         Sequence::Dsp => dsp_calls::run(stream, input, line, values, bytes, out),
         Sequence::Avr(model) => { avr_calls::run(model, stream, input, line, values, bytes, out) }
         Sequence::Pi => pi_calls::run(stream, input, line, values, bytes, out),
+        Sequence::AvrConfig(settings) => {
+            avr_config_calls::run(settings, stream, input, line, values, bytes, out)
+        }
+        Sequence::Disarm => arm_calls::run(sequence, stream, input, line, values, bytes, out),
+        Sequence::Arm(_) => arm_calls::run(sequence, stream, input, line, values, bytes, out),
     }
 }
 
@@ -38,7 +43,7 @@ fn answer(
     bytes: &mut [u8; BYTES],
     out: &mut [u8; OUT],
 ) -> Stream {
-    let mut turn = next(stream, Calls::none(), input, line, values, bytes, out);
+    let mut turn = next(stream, NO_CALLS, input, line, values, bytes, out);
     let mut turns = u64::MAX;
     while 0 < turns {
         let call = turn.call;

@@ -1,5 +1,5 @@
-// The message of a kind, made of the values of its fields: a negative number by its two's complement, a bool as 0 or 1, a float by
-// its bits.
+// The message of a kind, or the parts of a settings run, made of the values of their fields: a negative number by its two's complement,
+// a bool as 0 or 1, a float by its bits.
 use protocol::Message;
 use protocol::camera::CamConfig;
 use protocol::config::ModeSet;
@@ -14,7 +14,10 @@ use protocol::status::DspStatus;
 use protocol::status::DspStatus46;
 use protocol::status::DspStatus80;
 use words::kinds::CONFIG_RESP;
+use words::kinds::FLOAT40;
+use words::kinds::NUMBERS;
 use words::kinds::VALUES;
+use words::kinds::place_of_param;
 use words::low_byte;
 
 // ---- a value at its type
@@ -65,7 +68,7 @@ fn at(values: &[u64; VALUES], i: usize) -> u64 {
     0
 }
 
-fn byte(values: &[u64; VALUES], i: usize) -> u8 {
+pub fn byte(values: &[u64; VALUES], i: usize) -> u8 {
     low_byte(at(values, i))
 }
 
@@ -77,7 +80,7 @@ fn flag(values: &[u64; VALUES], i: usize) -> bool {
     at(values, i) == 1
 }
 
-fn float(values: &[u64; VALUES], i: usize) -> f64 {
+pub fn float(values: &[u64; VALUES], i: usize) -> f64 {
     to_f64(at(values, i))
 }
 
@@ -161,27 +164,6 @@ fn mode_set(values: &[u64; VALUES]) -> ModeSet {
     }
 }
 
-fn int_param(values: &[u64; VALUES]) -> ParamValue {
-    ParamValue {
-        param_id: byte(values, 0),
-        value: ParamData::Int24(to_i32(at(values, 1))),
-    }
-}
-
-fn float_param(values: &[u64; VALUES]) -> ParamValue {
-    ParamValue {
-        param_id: byte(values, 0),
-        value: ParamData::Float40(float(values, 1)),
-    }
-}
-
-fn radar_cal(values: &[u64; VALUES]) -> RadarCal {
-    RadarCal {
-        range_mm: to_u16(at(values, 0)),
-        height_mm: byte(values, 1),
-    }
-}
-
 fn dsp_query_resp(values: &[u64; VALUES]) -> DspQueryResp {
     DspQueryResp {
         version: byte(values, 0),
@@ -196,6 +178,41 @@ fn time_sync(values: &[u64; VALUES]) -> TimeSync {
         session: byte(values, 1),
     }
 }
+
+// ---- those whose values may stand elsewhere: from `i` on
+
+fn int_param(values: &[u64; VALUES], i: usize) -> ParamValue {
+    ParamValue {
+        param_id: byte(values, i),
+        value: ParamData::Int24(to_i32(at(values, std::num::wrapping_add_usize(i, 1)))),
+    }
+}
+
+fn float_param(values: &[u64; VALUES], i: usize) -> ParamValue {
+    ParamValue {
+        param_id: byte(values, i),
+        value: ParamData::Float40(float(values, std::num::wrapping_add_usize(i, 1))),
+    }
+}
+
+// A parameter of a settings run, by its number from 0.
+pub fn param(values: &[u64; VALUES], k: usize) -> ParamValue {
+    let kind = place_of_param(k);
+    let first = std::num::wrapping_add_usize(kind, 1);
+    if at(values, kind) == FLOAT40 as u64 {
+        return float_param(values, first);
+    }
+    int_param(values, first)
+}
+
+pub fn radar_cal(values: &[u64; VALUES], i: usize) -> RadarCal {
+    RadarCal {
+        range_mm: to_u16(at(values, i)),
+        height_mm: byte(values, std::num::wrapping_add_usize(i, 1)),
+    }
+}
+
+// ---- any kind
 
 // A kind that has no fields.
 fn without_fields(kind: usize) -> Message {
@@ -221,24 +238,24 @@ pub fn message(kind: usize, values: &[u64; VALUES]) -> Message {
         3 => Message::ConfigAck(config_ack(values)),
         4 => Message::ConfigNack(config_ack(values)),
         7 => Message::ModeSet(mode_set(values)),
-        8 => Message::ParamValue(int_param(values)),
-        9 => Message::RadarCal(radar_cal(values)),
+        8 => Message::ParamValue(int_param(values, 0)),
+        9 => Message::RadarCal(radar_cal(values, 0)),
         12 => Message::DspQueryResp(dsp_query_resp(values)),
         18 => Message::TimeSync(time_sync(values)),
         19 => Message::CamConfig(cam_config(values)),
         21 => Message::DspStatus(DspStatus::V80(status_80(values))),
         22 => Message::DspStatus(DspStatus::V46(status_46(values))),
-        23 => Message::ParamValue(float_param(values)),
+        23 => Message::ParamValue(float_param(values, 0)),
         _ => without_fields(kind),
     }
 }
 
 // The 34 numbers of a `ConfigResp`, or zeros.
-pub fn params(kind: usize, values: &[u64; VALUES]) -> [i16; VALUES] {
-    let mut all = [0i16; VALUES];
+pub fn params(kind: usize, values: &[u64; VALUES]) -> [i16; NUMBERS] {
+    let mut all = [0i16; NUMBERS];
     if kind == CONFIG_RESP {
         let mut i = 0;
-        while i < VALUES {
+        while i < NUMBERS {
             let n = short(values, i);
             all[i] = n;
             i += 1;

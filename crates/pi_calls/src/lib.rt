@@ -22,6 +22,14 @@ use writing::send;
 use writing::write;
 use writing::write::OUT;
 
+const CALLS: Calls = Calls {
+    feed: true,
+    check: false,
+    result: true,
+    take: false,
+    retries: false,
+};
+
 // The start-up after a call, and the end of the answer.
 struct Answered {
     pi: PiSequencer,
@@ -80,7 +88,7 @@ fn feed(
     pi: PiSequencer,
     feed: Feed,
     values: &[u64; VALUES],
-    bytes: &[u8],
+    bytes: &[u8; BYTES],
     out: &mut [u8; OUT],
     at: usize,
 ) -> Answered {
@@ -102,25 +110,18 @@ fn result(pi: PiSequencer, out: &mut [u8; OUT], at: usize) -> usize {
     stored::sync(out, end, sync)
 }
 
-fn calls() -> Calls {
-    Calls {
-        feed: true,
-        check: false,
-        result: true,
-        take: false,
-    }
-}
-
 // A call of a start-up that has begun: `result`, where it is no other.
 fn call(
-    pi: PiSequencer,
-    call: Call,
+    done: Answered,
+    turn: Turn,
     values: &[u64; VALUES],
-    bytes: &[u8],
+    bytes: &[u8; BYTES],
     out: &mut [u8; OUT],
-    at: usize,
 ) -> Answered {
-    match call {
+    let pi = done.pi;
+    let at = turn.stream.out;
+    let asked = turn.call;
+    match asked {
         Call::Feed(envelope) => feed(pi, envelope, values, bytes, out, at),
         _ => Answered {
             pi: pi,
@@ -130,13 +131,14 @@ fn call(
 }
 
 // Ends an answer, with every stored field if they are asked for.
-fn end(pi: PiSequencer, stream: Stream, out: &mut [u8; OUT], at: usize) -> Stream {
+fn end(done: Answered, stream: Stream, out: &mut [u8; OUT]) -> Stream {
     if stream.with_state {
+        let pi = done.pi;
         let replies = pi.replies;
-        let end = stored::state(out, at, replies);
+        let end = stored::state(out, done.at, replies);
         return stream.answered(out, end);
     }
-    stream.answered(out, at)
+    stream.answered(out, done.at)
 }
 
 // A start-up from its beginning, whose number is written, to the beginning of the next sequence or the end of the list. The calls
@@ -153,14 +155,12 @@ pub fn run(
     let mut turn = Turn::without_call(stream);
     let mut turns = u64::MAX;
     loop {
-        let pi = done.pi;
-        let ended = end(pi, turn.stream, out, done.at);
-        turn = next(ended, calls(), input, line, values, bytes, out);
+        let ended = end(done, turn.stream, out);
+        turn = next(ended, CALLS, input, line, values, bytes, out);
         if turn.leaves() {
             return turn;
         }
-        let asked = turn.call;
-        done = call(pi, asked, values, bytes, out, turn.stream.out);
+        done = call(done, turn, values, bytes, out);
         if turns == 0 {
             return turn;
         }

@@ -1,3 +1,4 @@
 pub mod Arms
 pub mod Numbers
 pub mod StoredBytes
+pub mod Filled

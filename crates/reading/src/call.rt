@@ -4,11 +4,13 @@ use crate::cursor::Cursor;
 use crate::cursor::Span;
 use crate::cursor::choice;
 use crate::reasons;
+use crate::settings::Settings;
 use device::model::DeviceModel;
 use protocol::addr::BusAddr;
 use words::MODELS;
 use words::SOURCES;
 use words::byte_at;
+use words::kinds::KINDS;
 use words::kinds::VALUES;
 use words::low_byte;
 use words::part;
@@ -20,6 +22,9 @@ pub enum Sequence {
     Dsp,
     Avr(DeviceModel),
     Pi,
+    AvrConfig(Settings),
+    Disarm,
+    Arm(DeviceModel),
 }
 
 // The calls that a sequence has. Each has `feed`, and none has begun before the first.
@@ -28,7 +33,17 @@ pub struct Calls {
     pub check: bool,
     pub result: bool,
     pub take: bool,
+    pub retries: bool,
 }
+
+// Those before the first sequence.
+pub const NO_CALLS: Calls = Calls {
+    feed: false,
+    check: false,
+    result: false,
+    take: false,
+    retries: false,
+};
 
 // An envelope and a clock reading. Its text is the first `text` of the stored bytes, its payload those from there to `payload`.
 pub struct Feed {
@@ -60,6 +75,7 @@ pub enum Call {
     Check(u64),
     Result,
     Take,
+    Retries,
     Device(DeviceCall),
 }
 
@@ -70,31 +86,14 @@ pub struct Read {
 }
 
 impl Calls {
-    pub fn all() -> Calls {
-        Calls {
-            feed: true,
-            check: true,
-            result: true,
-            take: true,
-        }
-    }
-
-    pub fn none() -> Calls {
-        Calls {
-            feed: false,
-            check: false,
-            result: false,
-            take: false,
-        }
-    }
-
-    // `feed`, `check`, `result` and `take`, from 0.
+    // `feed`, `check`, `result`, `take` and `retries`, from 0.
     fn has(self, name: usize) -> bool {
         match name {
             0 => self.feed,
             1 => self.check,
             2 => self.result,
-            _ => self.take,
+            3 => self.take,
+            _ => self.retries,
         }
     }
 
@@ -125,7 +124,7 @@ impl Cursor {
         }
     }
 
-    fn begins(self, sequence: Sequence) -> Read {
+    pub fn begins(self, sequence: Sequence) -> Read {
         self.with_call(Call::Begin(sequence))
     }
 
@@ -167,7 +166,13 @@ impl Cursor {
         }
     }
 
-    fn feed(self, line: &[u8], values: &mut [u64; VALUES], bytes: &mut [u8; BYTES]) -> Read {
+    fn feed(
+        self,
+        line: &[u8],
+        kinds: &[u8],
+        values: &mut [u64; VALUES],
+        bytes: &mut [u8; BYTES],
+    ) -> Read {
         let now = self.number(line, u64::MAX);
         let c = now.c;
         let source = c.source(line);
@@ -175,7 +180,7 @@ impl Cursor {
         let src = source.src;
         let type_id = c.number(line, 0xFF);
         let c = type_id.c;
-        let kind = c.kind(line, values, bytes);
+        let kind = c.kind(line, kinds, values, bytes);
         let c = kind.c;
         let text = c.lent(line, b"text=", bytes, 0);
         let c = text.c;
@@ -223,15 +228,27 @@ impl Cursor {
         c.with_call(Call::Device(DeviceCall::KeepaliveFor(model)))
     }
 
-    fn avr(self, line: &[u8]) -> Read {
+    // A model, or a Mevo where the line ends.
+    fn model_or_mevo(self, line: &[u8]) -> Model {
         let word = self.word(line);
         if word.from == word.to {
-            return self.begins(Sequence::Avr(DeviceModel::Mevo));
+            return self.with_model(DeviceModel::Mevo);
         }
-        let named = self.model(line);
+        self.model(line)
+    }
+
+    fn avr(self, line: &[u8]) -> Read {
+        let named = self.model_or_mevo(line);
         let c = named.c;
         let model = named.model;
         c.begins(Sequence::Avr(model))
+    }
+
+    fn arm(self, line: &[u8]) -> Read {
+        let named = self.model_or_mevo(line);
+        let c = named.c;
+        let model = named.model;
+        c.begins(Sequence::Arm(model))
     }
 
     fn model_of(self, line: &[u8], bytes: &mut [u8; BYTES]) -> Read {
@@ -242,31 +259,49 @@ impl Cursor {
         c.with_call(Call::Device(DeviceCall::Model(payload.end)))
     }
 
-    // A call of a sequence that has begun: `feed`, `check`, `result` and `take`, from 0.
+    // A call of a sequence that has begun: `feed`, `check`, `result`, `take` and `retries`, from 0.
     fn in_sequence(
         self,
         line: &[u8],
+        kinds: &[u8],
         name: usize,
         values: &mut [u64; VALUES],
         bytes: &mut [u8; BYTES],
     ) -> Read {
         match name {
-            0 => self.feed(line, values, bytes),
+            0 => self.feed(line, kinds, values, bytes),
             1 => self.check(line),
             2 => self.with_call(Call::Result),
-            _ => self.with_call(Call::Take),
+            3 => self.with_call(Call::Take),
+            _ => self.with_call(Call::Retries),
         }
     }
 
-    // `ack`, `keepalive` and `model`, from 4, and the sequences behind them. The word begins at `from`.
-    fn outside(self, line: &[u8], name: usize, from: usize, bytes: &mut [u8; BYTES]) -> Read {
+    // `ack`, `keepalive` and `model`, from 5.
+    fn outside(self, line: &[u8], name: usize, bytes: &mut [u8; BYTES]) -> Read {
         match name {
-            4 => self.ack(line),
-            5 => self.keepalive(line),
-            6 => self.model_of(line, bytes),
-            7 => self.begins(Sequence::Dsp),
-            8 => self.avr(line),
-            9 => self.begins(Sequence::Pi),
+            5 => self.ack(line),
+            6 => self.keepalive(line),
+            _ => self.model_of(line, bytes),
+        }
+    }
+
+    // A sequence, from 8. The word begins at `from`.
+    fn sequence(
+        self,
+        line: &[u8],
+        kinds: &[u8],
+        name: usize,
+        from: usize,
+        values: &mut [u64; VALUES],
+    ) -> Read {
+        match name {
+            8 => self.begins(Sequence::Dsp),
+            9 => self.avr(line),
+            10 => self.begins(Sequence::Pi),
+            11..=13 => self.settings(line, kinds, name, values),
+            14 => self.begins(Sequence::Disarm),
+            15 => self.arm(line),
             _ => self.fail(from, reasons::UNKNOWN_CALL).with_call(Call::None),
         }
     }
@@ -274,6 +309,7 @@ impl Cursor {
     fn call(
         self,
         line: &[u8],
+        kinds: &[u8],
         calls: Calls,
         values: &mut [u64; VALUES],
         bytes: &mut [u8; BYTES],
@@ -281,11 +317,14 @@ impl Cursor {
         let word = self.word(line);
         let c = self.to(word.to);
         let name = call_name(line, word);
-        if 3 < name {
-            return c.outside(line, name, word.from, bytes);
+        if 7 < name {
+            return c.sequence(line, kinds, name, word.from, values);
+        }
+        if 4 < name {
+            return c.outside(line, name, bytes);
         }
         if calls.has(name) {
-            return c.in_sequence(line, name, values, bytes);
+            return c.in_sequence(line, kinds, name, values, bytes);
         }
         self.fail(0, calls.without()).with_call(Call::None)
     }
@@ -296,7 +335,7 @@ fn call_name(line: &[u8], word: Span) -> usize {
     choice(
         line,
         word,
-        b"feed check result take ack keepalive model dsp avr pi",
+        b"feed check result take retries ack keepalive model dsp avr pi avr_config mode_only mevo_settings disarm arm",
         b' ',
     )
 }
@@ -340,7 +379,7 @@ pub fn read_line(
         return start().fail(LINE, reasons::LONG_LINE).with_call(Call::None);
     }
     let line = trimmed(whole);
-    let read = start().call(line, calls, values, bytes);
+    let read = start().call(line, &KINDS, calls, values, bytes);
     let c = read.c;
     let call = read.call;
     c.end(line).with_call(call)

@@ -1,4 +1,4 @@
-// The fields of a kind, read by its layout: `NAME=TYPE` for each field, with a blank behind it.
+// The fields of a kind, read by its layout: `NAME=TYPE` for each field, with a blank behind it, and a semicolon at the end.
 use crate::cursor::Cursor;
 use crate::cursor::skip;
 use crate::number::Limit;
@@ -7,7 +7,9 @@ use crate::reasons;
 use words::behind;
 use words::byte_at;
 use words::find;
+use words::kinds::NUMBERS;
 use words::kinds::VALUES;
+use words::place;
 
 // The limits of `u8`, `u16`, `u32`, `i16` and `i32`, by their first two letters.
 fn limit_of(kind: u8, size: u8) -> Limit {
@@ -28,45 +30,51 @@ fn limit_of(kind: u8, size: u8) -> Limit {
     }
 }
 
+// Where the fields of a kind begin.
+pub fn fields_of(kinds: &[u8], kind: usize) -> usize {
+    behind(kinds, place(kinds, kind, b';'), b' ')
+}
+
 impl Cursor {
-    // The value of a field whose type stands at `at` of the layout.
-    fn field(self, line: &[u8], layout: &[u8], at: usize) -> Number {
+    // The value of a field whose type stands at `at` of the kinds.
+    fn field(self, line: &[u8], kinds: &[u8], at: usize) -> Number {
         if self.bad() {
             return Number { c: self, value: 0 };
         }
-        let kind = byte_at(layout, at);
+        let kind = byte_at(kinds, at);
         match kind {
             b'b' => self.boolean(line),
             b'f' => self.float(line),
             _ => {
-                let size = byte_at(layout, std::num::wrapping_add_usize(at, 1));
+                let size = byte_at(kinds, std::num::wrapping_add_usize(at, 1));
                 let to = skip(line, self.at, false);
                 self.number_here(line, to, limit_of(kind, size))
             }
         }
     }
 
-    // The fields of the layout that begins at `from` and ends with a semicolon.
+    // The fields of a kind, whose values go to `first` and behind it.
     pub fn fields(
         self,
         line: &[u8],
-        layout: &[u8],
-        from: usize,
+        kinds: &[u8],
+        kind: usize,
         values: &mut [u64; VALUES],
+        first: usize,
     ) -> Cursor {
         let mut c = self;
-        let mut at = from;
-        let mut k = 0;
+        let mut at = fields_of(kinds, kind);
+        let mut k = first;
         while k < VALUES {
-            if byte_at(layout, at) == b';' {
+            if byte_at(kinds, at) == b';' {
                 return c;
             }
-            c = c.name(line, layout, at);
-            let kind = behind(layout, at, b'=');
-            let read = c.field(line, layout, kind);
+            c = c.name(line, kinds, at);
+            let form = behind(kinds, at, b'=');
+            let read = c.field(line, kinds, form);
             c = read.c;
             values[k] = read.value;
-            at = behind(layout, kind, b' ');
+            at = behind(kinds, form, b' ');
             k += 1;
         }
         c
@@ -86,7 +94,7 @@ impl Cursor {
     pub fn listed(self, line: &[u8], values: &mut [u64; VALUES]) -> Cursor {
         let mut c = self;
         let mut k = 0;
-        while k < VALUES {
+        while k < NUMBERS {
             let to = c.number_end(line);
             let read = c.number_here(line, to, limit_of(b'i', b'1'));
             c = read.c;
@@ -96,7 +104,7 @@ impl Cursor {
             }
             k += 1;
             let more = byte_at(line, to) == b',';
-            if more != (k < VALUES) {
+            if more != (k < NUMBERS) {
                 return c.fail(self.at, reasons::NOT_34);
             }
             if more {

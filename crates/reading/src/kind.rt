@@ -2,21 +2,15 @@
 use crate::bytes::BYTES;
 use crate::cursor::Cursor;
 use crate::cursor::choice;
+use crate::fields::fields_of;
 use crate::reasons;
-use words::behind;
 use words::kinds;
 use words::kinds::VALUES;
-use words::place;
 
 // The number of a kind, and the cursor behind it, or behind its name.
 pub struct Kind {
     pub c: Cursor,
     pub kind: usize,
-}
-
-// Where the fields of a kind begin.
-fn fields_of(kinds: &[u8], kind: usize) -> usize {
-    behind(kinds, place(kinds, kind, b';'), b' ')
 }
 
 impl Cursor {
@@ -39,7 +33,7 @@ impl Cursor {
     }
 
     // What has more than one form: the form that stands here.
-    fn form(self, line: &[u8], kinds: &[u8], kind: usize) -> Kind {
+    pub fn form(self, line: &[u8], kinds: &[u8], kind: usize) -> Kind {
         if kind == kinds::DSP_STATUS {
             return self.kind_name(line, kinds, kinds::V80, kinds::V46);
         }
@@ -74,32 +68,35 @@ impl Cursor {
         values: &mut [u64; VALUES],
         bytes: &mut [u8; BYTES],
     ) -> Cursor {
-        let from = fields_of(kinds, kind);
         if kind == kinds::CONFIG_RESP {
-            return self.params(line, kinds, from, values);
+            return self.params(line, kinds, values);
         }
-        let c = self.fields(line, kinds, from, values);
+        let c = self.fields(line, kinds, kind, values, 0);
         if kind == kinds::TIME_SYNC {
             return c.tail(line, kinds, bytes);
         }
         c
     }
 
-    fn params(self, line: &[u8], kinds: &[u8], from: usize, values: &mut [u64; VALUES]) -> Cursor {
-        let c = self.name(line, kinds, from);
+    fn params(self, line: &[u8], kinds: &[u8], values: &mut [u64; VALUES]) -> Cursor {
+        let c = self.name(line, kinds, fields_of(kinds, kinds::CONFIG_RESP));
         if c.bad() {
             return c;
         }
         c.listed(line, values)
     }
 
-    fn kind_in(
+    // A kind and its fields, whose values are kept.
+    pub fn kind(
         self,
         line: &[u8],
         kinds: &[u8],
         values: &mut [u64; VALUES],
         bytes: &mut [u8; BYTES],
     ) -> Kind {
+        if self.bad() {
+            return self.with_kind(kinds::OTHER);
+        }
         let named = self.kind_name(line, kinds, 0, kinds::OTHER);
         let c = named.c;
         if c.bad() {
@@ -112,13 +109,5 @@ impl Cursor {
         }
         c.kind_fields(line, kinds, formed.kind, values, bytes)
             .with_kind(formed.kind)
-    }
-
-    // A kind and its fields, whose values are kept.
-    pub fn kind(self, line: &[u8], values: &mut [u64; VALUES], bytes: &mut [u8; BYTES]) -> Kind {
-        if self.bad() {
-            return self.with_kind(kinds::OTHER);
-        }
-        self.kind_in(line, &kinds::KINDS, values, bytes)
     }
 }

@@ -6,3 +6,4 @@ mod fields;
 mod kind;
 mod number;
 pub mod reasons;
+pub mod settings;

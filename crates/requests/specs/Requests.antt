@@ -1,4 +1,4 @@
--- The sends with fields that a start-up makes (01: "AVR result", "Pi result"). Definitions only.
+-- The sends with fields that the sequences make. Definitions only.
 -- Assumes nothing.
 use Prim.Native.Nat.{ℕ, _%_}
 use mathlib.Core.Bool.{Bool, true}
@@ -37,3 +37,7 @@ timeSync wall = record {
   payload = replicate 10 0;
   tail = 0x00 ∷ 0x01 ∷ [];
 }
+
+-- arm true arms the unit, arm false opens or commits a configuration (01: a commit)
+abbrev pub avrConfigCmd : Bool → Action
+avrConfigCmd arm = sendTo BusAddr.Avr (Command.AvrConfigCmd (record { arm = arm }))

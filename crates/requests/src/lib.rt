@@ -1,9 +1,10 @@
-// The sends with fields that a start-up makes.
+// The sends with fields that the sequences make.
 ghost use mathlib.Core.Path.{_≡_};
-ghost use Rattle.requests.specs.Requests.{statusPoll, paramReadReq, netConfigReq, calDataReq, timeSync};
+ghost use Rattle.requests.specs.Requests.{statusPoll, paramReadReq, netConfigReq, calDataReq, timeSync, avrConfigCmd};
 use protocol::Action;
 use protocol::Command;
 use protocol::addr::BusAddr;
+use protocol::config::AvrConfigCmd;
 use protocol::config::ParamReadReq;
 use protocol::handshake::CalDataReq;
 use protocol::handshake::NetConfigReq;
@@ -63,4 +64,14 @@ pub fn time_sync(wall: u64) -> Action
         payload: [0u8; 10],
         tail: [0x00, 0x01],
     }
+}
+
+// Arms the unit, or opens or commits a configuration.
+pub fn avr_config_cmd(arm: bool) -> Action
+    ensures { λ r. ⌜ r ≡ avrConfigCmd arm ⌝ }
+{
+    Action::send(
+        Command::AvrConfigCmd(AvrConfigCmd { arm: arm }),
+        BusAddr::Avr,
+    )
 }

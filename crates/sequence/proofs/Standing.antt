@@ -71,6 +71,16 @@ module _ {A Y K : Type 0} (row : K → Row A Y) (next : K → K) (done : K) (ste
   pub table-antitone : Each machine.Antitone table
   table-antitone = antitone-rows (λ k. test (row k)) (λ k. test-antitone (row k)) steps
 
+  -- each step of the list is followed by the one after it, the last by `done`
+  abbrev pub Chained : List K → Type 0
+  Chained [] = Unit {0}
+  Chained (k ∷ l) = (next k ≡ getD l 0 done) × Chained l
+
+  pub chained-follows : (l : List K) → Chained l → (k : ℕ) → k < length l → next (getD l k done) ≡ getD l (suc k) done
+  chained-follows [] c k h = absurd (not-suc-le-zero h)
+  chained-follows (x ∷ l) c zero h = c .0
+  chained-follows (x ∷ l) c (suc k) h = chained-follows l (c .1) k (le-of-suc-le-suc h)
+
   -- what is stored once the events es have ticked the rows from number k on, y being stored before
   abbrev pub stored : ℕ → List (Event A) → Y → Y
   stored k [] y = y

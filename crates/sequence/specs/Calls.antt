@@ -27,3 +27,10 @@ pub data Untimed (A Q : Type 0) : Type 0 where
 abbrev pub untimed : {A Q : Type 0} → (A → Envelope) → ℕ → Untimed A Q → List (Event A)
 untimed env last (feed a) = cond (none (bytesRefusals (env a .text) (env a .payload))) (fed a 0 ∷ []) []
 untimed env last (ask q) = []
+
+-- the calls of a sequence that is only fed: nothing is asked of it
+abbrev pub Fed : Type 0
+Fed = Untimed Envelope ⊥
+
+abbrev pub fedEvent : ℕ → Fed → List (Event Envelope)
+fedEvent last c = untimed (λ e. e) last c

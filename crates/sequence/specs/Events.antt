@@ -2,7 +2,7 @@
 -- Assumes nothing.
 use Prim.Native.Nat.{ℕ, _+_}
 use mathlib.Core.Bool.{Bool, false, _&&_, _||_}
-use mathlib.Core.List.{List}
+use mathlib.Core.List.{List, []}
 use lib.Dec.{leb, eqb}
 use lib.IntN.{ℤ}
 use Rattle.protocol.specs.declared.addr.BusAddr.{BusAddr}
@@ -20,9 +20,17 @@ pub record Envelope : Type 0 where
   pub text : List ℕ
   pub payload : List ℕ
 
+-- an envelope with nothing but a source, a message and a text
+abbrev pub plain : BusAddr → Message → List ℕ → Envelope
+plain src m text = record { src = src; type-id = 0; message = m; params = []; text = text; payload = [] }
+
+-- of this kind, from any device
+abbrev pub ofKind : ℕ → Envelope → Bool
+ofKind k e = eqb (tag (e .message)) k
+
 -- from the device with this byte, and of this kind
 abbrev pub kind : ℕ → ℕ → Envelope → Bool
-kind b k e = eqb (byteOf (e .src)) b && eqb (tag (e .message)) k
+kind b k e = eqb (byteOf (e .src)) b && ofKind k e
 
 -- and with this acked_cmd
 abbrev pub acking : ℕ → ℕ → ℕ → Envelope → Bool

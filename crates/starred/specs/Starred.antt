@@ -2,7 +2,7 @@
 -- says. Proved as a whole.
 -- Assumes nothing.
 use mathlib.Core.Path.{_≡_, refl}
-use mathlib.Core.Bool.{false}
+use mathlib.Core.Bool.{true, false}
 use mathlib.Core.List.{List, [], _∷_, map}
 use Prim.Native.Nat.{ℕ}
 use Rattle.protocol.specs.declared.addr.BusAddr.{BusAddr}
@@ -16,11 +16,15 @@ use Rattle.protocol.specs.Action.{noAction, sendTo}
 use Rattle.device.specs.declared.model.DeviceModel.{DeviceModel}
 use Rattle.device.specs.Model.{modelOf}
 use Rattle.device.specs.Sends.{resultAck}
-use Rattle.sequence.specs.Events.{Envelope, Event, fed}
+use Rattle.protocol.specs.Carried.{noAvrStatus}
+use Rattle.sequence.specs.Events.{Envelope, Event, fed, plain}
 use Rattle.avr_steps.specs.Stores.{Dated}
 use Rattle.avr.specs.declared.AvrSequencer.{AvrSequencer}
 use Rattle.avr.specs.Answers as avr
 use Rattle.pi.specs.Stores.{ssidIn, passwordIn}
+use Rattle.arm.specs.declared.ArmStep.{ArmStep}
+use Rattle.arm.specs.declared.ArmSequencer.{ArmSequencer}
+use Rattle.arm.specs.Answers as arm
 use Rattle.dsp.specs.declared.DspSequencer.{DspSequencer}
 use Rattle.dsp.specs.Answers.{begun, fedTo, polled}
 
@@ -29,6 +33,7 @@ pub data Answer : Type 0 where
   model : DeviceModel → Answer
   action : Action → Answer
   bytes : Stored → Answer
+  arming : ArmStep → Answer
 
 pub record Trial : Type 0 where
   pub answered : Answer
@@ -76,6 +81,18 @@ refused = avr.fedTo (avr.fedTo (avr.begun DeviceModel.Mevo .seq) nack 1_000_000_
 abbrev network : List ℕ → Event Envelope
 network text = fed (record { src = BusAddr.Pi; type-id = 0xDE; message = Message.NetConfigResp; params = []; text = text; payload = [] }) 0
 
+-- an arm of a Xi at its last step, and a text that comes then
+abbrev lastStep : ArmSequencer
+lastStep =
+    let fed : ArmSequencer → Message → BusAddr → ArmSequencer = λ s m b. arm.fedTo s (plain b m []) .seq in
+    fed
+    (fed (fed (arm.begun DeviceModel.Xi .seq) (dspStatus .message) BusAddr.Dsp) (Message.AvrStatus noAvrStatus) BusAddr.Avr)
+    (Message.ConfigAck (record { «bus_addr» = 0x30; «acked_cmd» = 0x30 }))
+    BusAddr.Avr
+
+abbrev said : List ℕ → ArmStep
+said text = arm.fedTo lastStep (plain BusAddr.Avr Message.Text text) .seq .step
+
 abbrev pub starred : List Trial
 starred =
     -- payload "FS Xi": Xi
@@ -105,6 +122,10 @@ starred =
     -- "range": ssid range, password empty
     trial (bytes (ssidIn (network (114 ∷ 97 ∷ 110 ∷ 103 ∷ 101 ∷ [])))) (bytes (stored (114 ∷ 97 ∷ 110 ∷ 103 ∷ 101 ∷ []))) ∷
     trial (bytes (passwordIn (network (114 ∷ 97 ∷ 110 ∷ 103 ∷ 101 ∷ [])))) (bytes (stored [])) ∷
+    -- arm, last step on Xi, Text "DISARMED": Done
+    trial (arming (said (68 ∷ 73 ∷ 83 ∷ 65 ∷ 82 ∷ 77 ∷ 69 ∷ 68 ∷ []))) (arming ArmStep.Done) ∷
+    -- "ARMED CANCELLED": not
+    trial (arming (said (65 ∷ 82 ∷ 77 ∷ 69 ∷ 68 ∷ 32 ∷ 67 ∷ 65 ∷ 78 ∷ 67 ∷ 69 ∷ 76 ∷ 76 ∷ 69 ∷ 68 ∷ []))) (arming (ArmStep.WaitPiAndArmed true false)) ∷
     []
 
 pub starred-right : map (λ t. t .answered) starred ≡ map (λ t. t .said) starred

@@ -1,11 +1,14 @@
-// The kinds of a message, as a list names them.
+// The kinds of a message, as a list names them, and the values of their fields.
 
-// The most values of a kind.
-pub const VALUES: usize = 34;
+// The most values of a line: those of a settings run.
+pub const VALUES: usize = 99;
 
-// The kinds, by their numbers from 0: each with its fields, and a semicolon. The last four stand for parts of a kind: the two forms of a `DspStatus`, a
-// `ParamValue` with a float, and the two bytes of a `TimeSync`.
-pub const KINDS: [u8; 1375] =
+// The numbers of a `ConfigResp`.
+pub const NUMBERS: usize = 34;
+
+// The kinds, by their numbers from 0: each with its fields, and a semicolon. The last five aren't kinds themselves: the two forms of a `DspStatus`, a
+// `ParamValue` with a float, the two bytes of a `TimeSync`, and the settings of a Mevo.
+pub const KINDS: [u8; 1464] =
     *b"AvrStatus version=u8 state=u8 hw_id_hi=u8 hw_id_lo=u8 full_app_id=i32 temperature=f64 tilt=f64 roll=f64 ;\
     DspStatus ;PiStatus ;ConfigAck bus_addr=u8 acked_cmd=u8 ;ConfigNack bus_addr=u8 acked_cmd=u8 ;ModeAck ;Text ;\
     ModeSet mode=u8 ;ParamValue param_id=u8 int24=i32 ;RadarCal range_mm=u16 height_mm=u8 ;ConfigResp params=34 ;\
@@ -20,11 +23,16 @@ pub const KINDS: [u8; 1375] =
     buffer_sub_sampling_pre_trigger_buffer_size=i16 ;Other ;\
     V80 state=u8 input_voltage_usb=i16 system_voltage=i16 battery_current=i16 temperature_raw=i16 \
     battery_voltage=i16 battery_voltage_2=i16 power_level=i16 external_power=bool ;V46 state=u8 version=u8 ;\
-    Float40 param_id=u8 float40=f64 ;tail tail=2 ;";
+    Float40 param_id=u8 float40=f64 ;tail tail=2 ;\
+    Mevo mode=u8 ball_type=u8 track_fraction=f64 tee_height_m=f64 range_mm=u16 height_mm=u8 ;";
 
 pub const DSP_STATUS: usize = 1;
 
+pub const MODE_SET: usize = 7;
+
 pub const PARAM_VALUE: usize = 8;
+
+pub const RADAR_CAL: usize = 9;
 
 pub const CONFIG_RESP: usize = 10;
 
@@ -39,3 +47,16 @@ pub const V46: usize = 22;
 pub const FLOAT40: usize = 23;
 
 pub const TAIL: usize = 24;
+
+pub const MEVO_SETTINGS: usize = 25;
+
+// The values of a settings run: the mode, two of the calibration from here on, and three of each parameter: its kind, its id and its value.
+pub const CAL: usize = 1;
+
+// Where those of the parameter `k`, from 0, begin. Parameters past the 32nd share its place: no run takes them.
+pub fn place_of_param(k: usize) -> usize {
+    if k < 31 {
+        return 3 + 3 * k;
+    }
+    96
+}

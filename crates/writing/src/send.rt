@@ -70,15 +70,29 @@ fn of_command(command: Command) -> Numbers {
     }
 }
 
-fn command_in(commands: &[u8], out: &mut [u8; OUT], at: usize, n: Numbers) -> usize {
-    let from = place(commands, n.command, b';');
-    let end = write::text(out, at, part(commands, from, find(commands, from, b' ')));
+fn name_in(commands: &[u8], out: &mut [u8; OUT], at: usize, command: usize) -> usize {
+    let from = place(commands, command, b';');
+    write::text(out, at, part(commands, from, find(commands, from, b' ')))
+}
+
+fn fields_in(commands: &[u8], out: &mut [u8; OUT], at: usize, n: Numbers) -> usize {
+    let from = behind(commands, place(commands, n.command, b';'), b' ');
     let values = fields::three(n.first, n.second, 0);
-    fields::numbers(out, end, commands, behind(commands, from, b' '), &values)
+    fields::numbers(out, at, commands, from, &values)
+}
+
+fn command_in(commands: &[u8], out: &mut [u8; OUT], at: usize, n: Numbers) -> usize {
+    let end = name_in(commands, out, at, n.command);
+    fields_in(commands, out, end, n)
 }
 
 fn command(out: &mut [u8; OUT], at: usize, n: Numbers) -> usize {
     command_in(&COMMANDS, out, at, n)
+}
+
+// The fields of a parameter.
+pub fn param(out: &mut [u8; OUT], at: usize, param: ParamValue) -> usize {
+    fields_in(&COMMANDS, out, at, param_value(param))
 }
 
 fn tail(out: &mut [u8; OUT], at: usize, tail: [u8; 2]) -> usize {

@@ -5,12 +5,20 @@ use std::io;
 use std::process::ExitCode;
 use std::time::{SystemTime, UNIX_EPOCH};
 
-use oracle::compare::{Difference, LIST_LINES, Program, Source};
+use oracle::compare::{Difference, LIST_LINES, LONG_ARM_CALLS, Program, Source};
 use oracle::coverage::Coverage;
 use oracle::generate::{LEANINGS, Leaning};
 use oracle::list::Which;
 
-const USAGE: &str = "usage: compare N [SEED] --replay PATH [--only dsp|avr|pi] [--bad]";
+const USAGE: &str = "usage: compare N [SEED] --replay PATH [--only SEQUENCE] [--bad]
+SEQUENCE: dsp, avr, pi, avr_config, disarm or arm";
+
+/// The lines that are shown of a list with a difference.
+const MOST_SHOWN: usize = 1_000;
+
+/// Why the limit of retries isn't demanded.
+const NO_LONG_ARM: &str =
+    "not demanded: an arm with 65535 nacks (retries 65535, refused 13), which is made from";
 
 struct Task {
     calls: u64,
@@ -39,6 +47,9 @@ fn main() -> ExitCode {
         }
     }
     println!("seed {}: no difference\n\n{coverage}", task.seed);
+    if task.of.contains(&Which::Arm) && !coverage.long_arm {
+        println!("{NO_LONG_ARM} {LONG_ARM_CALLS} calls on");
+    }
     let mut missing = coverage.missing(&task.of);
     if task.bad {
         missing.extend(coverage.missing_reasons(&task.of));
@@ -84,7 +95,7 @@ type Shown = (Vec<String>, Difference);
 
 /// The coverage, or the smallest list that shows a difference.
 fn compare(task: &Task, leaning: Leaning) -> io::Result<Result<Coverage, Shown>> {
-    let mut source = Source::new(task.seed, leaning, task.bad);
+    let mut source = Source::of_calls(task.calls, task.seed, leaning, task.bad);
     while source.coverage.calls < task.calls {
         let list = source.list(LIST_LINES, task.calls - source.coverage.calls);
         if let Some(difference) = task.program.difference(&list)? {
@@ -96,9 +107,7 @@ fn compare(task: &Task, leaning: Leaning) -> io::Result<Result<Coverage, Shown>>
 
 fn differs(list: &[String], difference: &Difference) -> ExitCode {
     println!("a difference; the smallest list found:\n");
-    for line in list {
-        println!("{line}");
-    }
+    show(list);
     let (rust, program) = (shown(&difference.front), shown(&difference.program));
     println!("\nthe Rust:    {rust}\nthe program: {program}");
     let pairs = rust.bytes().zip(program.bytes());
@@ -108,6 +117,21 @@ fn differs(list: &[String], difference: &Difference) -> ExitCode {
     println!("the Rust:    {:.60}", from(rust));
     println!("the program: {:.60}", from(program));
     ExitCode::FAILURE
+}
+
+/// The middle of a very long list is left out.
+fn show(list: &[String]) {
+    let left_out = list.len().saturating_sub(MOST_SHOWN);
+    let half = list.len().min(MOST_SHOWN) / 2;
+    for line in &list[..half] {
+        println!("{line}");
+    }
+    if left_out > 0 {
+        println!("({left_out} lines left out; generate writes them)");
+    }
+    for line in &list[half + left_out..] {
+        println!("{line}");
+    }
 }
 
 fn shown(answer: &Option<String>) -> &str {

@@ -9,7 +9,8 @@ use oracle::generate::Leaning;
 use oracle::list::Which;
 use oracle::protocol::handshake::DeviceModel;
 
-const USAGE: &str = "usage: generate N [SEED] [--only dsp|avr|pi] [--mevo] [--bad]";
+const USAGE: &str = "usage: generate N [SEED] [--only SEQUENCE] [--mevo] [--bad]
+SEQUENCE: dsp, avr, pi, avr_config, disarm or arm";
 
 struct Task {
     calls: u64,
@@ -23,7 +24,7 @@ fn main() -> ExitCode {
         eprintln!("{USAGE}");
         return ExitCode::from(2);
     };
-    let mut source = Source::new(task.seed, task.leaning, task.bad);
+    let mut source = Source::of_calls(task.calls, task.seed, task.leaning, task.bad);
     while source.coverage.calls < task.calls {
         let list = source.list(LIST_LINES, task.calls - source.coverage.calls);
         let text = as_text(&list.lines);

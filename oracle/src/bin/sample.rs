@@ -1,4 +1,4 @@
-//! sample FILE: writes the stored list, good calls and then bad lines among others.
+//! sample FILE: writes the stored list, bad lines among others and then good calls.
 
 use std::path::Path;
 use std::process::ExitCode;
@@ -11,13 +11,14 @@ use oracle::list::Which;
 use oracle::protocol::handshake::DeviceModel;
 
 const USAGE: &str = "usage: sample FILE";
-const SEED: u64 = 1;
+/// One with which so few calls meet everything.
+const SEED: u64 = 315;
 /// Of each sequence and model.
-const GOOD_CALLS: u64 = 1_000;
-const CALLS_BETWEEN_BAD_LINES: u64 = 1_300;
+const GOOD_CALLS: u64 = 1_100;
+const CALLS_BETWEEN_BAD_LINES: u64 = 1_500;
 /// A list of its has the words of all sequences.
 const WITH_BAD_LINES: Leaning = Leaning {
-    which: Which::Avr,
+    which: Which::Arm,
     model: DeviceModel::Mevo,
 };
 
@@ -41,19 +42,19 @@ fn main() -> ExitCode {
     }
 }
 
-/// Writes the list, and gives what it never meets.
+/// Writes the list, and gives what it never meets. The bad lines come
+/// first: some of them are bad because no sequence has begun.
 fn sample(file: &Path) -> io::Result<Vec<String>> {
-    let (mut lines, mut coverage) = (Vec::new(), Coverage::default());
+    let mut source = Source::new(SEED, WITH_BAD_LINES, true);
+    let mut lines = source.list(usize::MAX, CALLS_BETWEEN_BAD_LINES).lines;
+    let mut missing = source.written_left().to_vec();
     for leaning in LEANINGS {
         let mut source = Source::new(SEED, leaning, false);
         lines.extend(source.list(usize::MAX, GOOD_CALLS).lines);
-        coverage.add(&source.coverage);
     }
-    let mut missing = coverage.missing(&Which::ALL);
-
-    let mut source = Source::new(SEED, WITH_BAD_LINES, true);
-    lines.extend(source.list(usize::MAX, CALLS_BETWEEN_BAD_LINES).lines);
-    missing.extend(source.coverage.missing_reasons(&Which::ALL));
+    let coverage = Coverage::of_list(&lines);
+    missing.extend(coverage.missing(&Which::ALL));
+    missing.extend(coverage.missing_reasons(&Which::ALL));
     fs::write(file, as_text(&lines))?;
     Ok(missing)
 }

@@ -1,153 +1,56 @@
 //! Lines that can't be read.
 
+use super::bad_lines::{EARLY, LINES, MORE_LINES, RETRIES_EARLY, SETTINGS_ARM_LINES};
 use super::kinds::{self, KINDS, Kind, Type};
 use super::random::Random;
+use super::settings;
 use crate::list::{self, Call, LONGEST, Which};
-
-/// Lines of these begin a list, before any sequence.
-pub const EARLY: [&str; 6] = [
-    "feed 1 Dsp 0xAA PiStatus",
-    "check",
-    " result",
-    "take it",
-    "feed",
-    "results",
-];
-
-/// Lines with each reason. Those about a kind's fields are made below.
-const LINES: [&str; 62] = [
-    "dsps",
-    " \tDsp",
-    "dsp#",
-    "feed=1",
-    "ack",
-    "ack Meva Dsp 1",
-    "keepalive mevo",
-    "keepalive \"Xi\"",
-    "ack Xi",
-    "ack Xi dsp 1",
-    "feed 1",
-    "feed 1 0x40 0xAA PiStatus",
-    "feed 1 Dsp 0xAA",
-    "feed 1 Dsp 0xAA PiStatu",
-    "feed 1 Dsp 0xAA DspStatus",
-    "feed 1 Dsp 0xAA DspStatus V81 state=1",
-    "feed 1 Dsp 0xBF ParamValue param_id=1",
-    "feed 1 Dsp 0xBF ParamValue param_id=1 int=1",
-    "feed 1 Dsp 0x95 ConfigAck bus_addr =1 acked_cmd=1",
-    "feed 1 Dsp 0x95 ConfigAck acked_cmd=1 bus_addr=1",
-    "check",
-    "check  ",
-    "check x",
-    "check 1x",
-    "check 0x",
-    "check 0X10",
-    "check -1",
-    "check -0",
-    "check +1",
-    "check 1_000",
-    "check 99999999999999999999999999x",
-    "feed -1 Dsp 1 PiStatus",
-    "feed 1 Dsp 0x1G PiStatus",
-    "check 18446744073709551616",
-    "check 0x10000000000000000",
-    "check 99999999999999999999999999999999999999999999",
-    "feed 1 Dsp 256 PiStatus",
-    "ack Xi Avr 0x100",
-    "model 4",
-    "model 4G",
-    "model 41x",
-    "model 41\"42\"",
-    "model 414",
-    "model \"",
-    "model \"FS Xi",
-    "model \"FS Xi\\\"",
-    "model \"FS\tXi\"",
-    "model \"\u{1F}\"",
-    "model \"\\",
-    "model \"\\q\"",
-    "model \"\\x4\"",
-    "model \"\\x4g\"",
-    "model \"\\X41\"",
-    "model \"41\"42",
-    "model 41 42",
-    "model \"41\" \"42\"",
-    "dsp 1",
-    "result  x",
-    "take #",
-    "check 1 2",
-    "keepalive Xi Xi",
-    "ack Xi Avr 0xD4 x",
-];
-
-/// The same, with words that the DSP's lists haven't. Some can be read
-/// while another sequence runs.
-const MORE_LINES: [&str; 34] = [
-    "avrs",
-    "Avr",
-    "avr=Xi",
-    "avr Meva",
-    "avr xi",
-    "avr \"Xi\"",
-    "avr 1",
-    "avr Xi Xi",
-    "avr Mevo #",
-    "pis",
-    "Pi",
-    "pi Mevo",
-    "pi 1",
-    "feed 1 Avr 0xBF ModeAck wall",
-    "feed 1 Avr 0xBF ModeAck wall=",
-    "feed 1 Avr 0xBF ModeAck wall= 1",
-    "feed 1 Avr 0xBF ModeAck wall =1",
-    "feed 1 Avr 0xBF ModeAck Wall=1",
-    "feed 1 Avr 0xBF ModeAck wall=x",
-    "feed 1 Avr 0xBF ModeAck wall=0x",
-    "feed 1 Avr 0xBF ModeAck wall=-1",
-    "feed 1 Avr 0xBF ModeAck wall=1.5",
-    "feed 1 Avr 0xBF ModeAck wall=18446744073709551616",
-    "feed 1 Avr 0xBF ModeAck wall=0x10000000000000000",
-    "feed 1 Avr 0xBF ModeAck wall=1 wall=1",
-    "feed 1 Avr 0xBF ModeAck wall=1 text=41",
-    "feed 1 Avr 0xBF ModeAck text=41 wall=1 payload=41",
-    "feed 1 Avr 0xBF ModeAck payload=\"a\"wall=1",
-    "take",
-    " take",
-    "take it",
-    "check 0",
-    "\tcheck",
-    "check x",
-];
 
 /// Makes bad lines.
 pub struct BadLines {
     random: Random,
-    more: &'static [&'static str],
+    early: Vec<&'static str>,
+    more: Vec<&'static str>,
+    /// The words that have fields and begin a sequence.
+    begins: &'static [Kind],
 }
 
 impl BadLines {
     /// For lists that lean towards a sequence.
     pub fn new(seed: u64, which: Which) -> Self {
-        BadLines {
+        let mut bad = BadLines {
             random: Random::new(!seed),
-            more: match which {
-                Which::Dsp => &[],
-                _ => &MORE_LINES,
-            },
+            early: EARLY.to_vec(),
+            more: Vec::new(),
+            begins: &[],
+        };
+        if which != Which::Dsp {
+            bad.more.extend(MORE_LINES);
         }
+        if !which.is_start_up() {
+            bad.early.extend(RETRIES_EARLY);
+            bad.more.extend(SETTINGS_ARM_LINES);
+            bad.begins = &settings::BEGINS;
+        }
+        bad
     }
 
     /// Each of the written lines once, and each field wrong once.
     pub fn all(&mut self) -> Vec<String> {
-        let written = LINES.iter().chain(self.more);
+        let written = LINES.iter().chain(&self.more);
         let mut lines: Vec<String> = written.map(|line| line.to_string()).collect();
-        for kind in &KINDS {
+        for kind in KINDS.iter().chain(self.begins) {
             for place in 0..kind.fields.len() {
                 lines.push(self.without(kind, place));
                 let wrong = wrong_values(&mut self.random, kind.fields[place].1);
                 lines.extend(wrong.iter().map(|value| self.with(kind, place, value)));
             }
-            lines.extend(self.wrong_bytes(kind));
+            if kind.type_id != 0 {
+                lines.extend(self.wrong_bytes(kind));
+            }
+        }
+        if !self.begins.is_empty() {
+            lines.push(past_the_limit());
         }
         lines.push(format!("model {}", "41".repeat(LONGEST / 2)));
         lines
@@ -159,15 +62,15 @@ impl BadLines {
     }
 
     /// Lines before any sequence has begun.
-    pub fn early(&self) -> &'static [&'static str] {
-        &EARLY
+    pub fn early(&self) -> &[&'static str] {
+        &self.early
     }
 
     /// A line that is bad, most of the time: a good one spoiled, or one of
     /// those above again.
     pub fn any(&mut self, line: &str) -> Option<String> {
         if !self.more.is_empty() && self.random.chance(10) {
-            return Some(self.random.pick(self.more).to_string());
+            return Some(self.random.pick(&self.more).to_string());
         }
         self.spoiled(line)
     }
@@ -197,8 +100,12 @@ impl BadLines {
         (comparable && !spoiled.contains('\n')).then_some(spoiled)
     }
 
+    /// Fed, or alone if it begins a sequence.
     fn line(&self, kind: &Kind, words: &[String]) -> String {
-        format!("feed 1 Dsp 0x{:02X} {}", kind.type_id, words.join(" "))
+        match kind.type_id {
+            0 => words.join(" "),
+            type_id => format!("feed 1 Dsp 0x{type_id:02X} {}", words.join(" ")),
+        }
     }
 
     /// The kind without one of its fields.
@@ -236,6 +143,12 @@ impl BadLines {
         }
         lines
     }
+}
+
+/// A settings list that would be refused, if its last parameter were one.
+fn past_the_limit() -> String {
+    let params = " param_id=1 int24=1".repeat(33);
+    format!("avr_config mode=9{params} param_id=1 int24=x")
 }
 
 /// Values that a field of the type can't have.

@@ -79,6 +79,45 @@ pub fn device_info(random: &mut Random, model: DeviceModel) -> Vec<u8> {
     bytes
 }
 
+/// A text with a needle: alone, at its start, in its middle, at its end or
+/// twice.
+pub fn with_needle(random: &mut Random, needle: &str) -> Vec<u8> {
+    let length = match random.below(12) {
+        0 => 0,
+        1 => 255,
+        2 => 256,
+        3 => 257,
+        _ => length(random),
+    };
+    let room = length.saturating_sub(needle.len());
+    let before = match random.below(4) {
+        0 => 0,
+        1 => random.index(room + 1),
+        _ => room,
+    };
+    let mut bytes = text(random, before);
+    bytes.extend(needle.as_bytes());
+    let mut after = text(random, room - before);
+    if random.chance(10) && after.len() < 200 {
+        after.extend(needle.as_bytes());
+    }
+    bytes.extend(after);
+    bytes
+}
+
+/// A text with one needle before another, which it may end with.
+pub fn with_both(random: &mut Random, first: &str, second: &str) -> Vec<u8> {
+    let length = random.pick(&[40, 60, 256]);
+    let room = length - first.len() - second.len();
+    let (start, end) = (random.pick(&[0, 3]), random.pick(&[0, 3]));
+    let mut bytes = text(random, start);
+    bytes.extend(first.as_bytes());
+    bytes.extend(text(random, room - start - end));
+    bytes.extend(second.as_bytes());
+    bytes.extend(text(random, end));
+    bytes
+}
+
 /// A network text: some texts with zero bytes between them, which may be
 /// empty.
 pub fn network(random: &mut Random) -> Vec<u8> {

@@ -1,10 +1,10 @@
-//! Feeds and checks of a start-up: the one that is awaited, one much like
+//! Feeds and checks of a sequence: the one that is awaited, one much like
 //! it, or any.
 
 use super::kinds::{self, KINDS, Kind};
 use super::random::Random;
 use super::readings::Readings;
-use super::{avr, bytes, dsp, pi};
+use super::{arm, avr, avr_config, bytes, disarm, dsp, pi};
 use crate::list::Which;
 use crate::protocol::handshake::DeviceModel;
 use crate::running::View;
@@ -27,6 +27,15 @@ pub struct Feed {
     kind: Vec<String>,
     text: Vec<u8>,
     payload: Vec<u8>,
+}
+
+impl Feed {
+    /// Gives a field of the kind, counted from 0, another value.
+    pub fn set(&mut self, field: usize, value: String) {
+        let word = &mut self.kind[1 + field];
+        let name = word.split('=').next().unwrap_or("").to_string();
+        *word = format!("{name}={value}");
+    }
 }
 
 impl Caller<'_> {
@@ -70,6 +79,9 @@ impl Caller<'_> {
             Which::Dsp => dsp::reply(self),
             Which::Avr => avr::reply(self),
             Which::Pi => pi::reply(self),
+            Which::AvrConfig => avr_config::reply(self),
+            Which::Disarm => disarm::reply(self),
+            Which::Arm => arm::reply(self),
         }
     }
 
@@ -79,6 +91,9 @@ impl Caller<'_> {
             Which::Dsp => dsp::usual(self),
             Which::Avr => avr::usual(self),
             Which::Pi => pi::usual(self),
+            Which::AvrConfig => avr_config::usual(self),
+            Which::Disarm => disarm::usual(self),
+            Which::Arm => arm::usual(self),
         }
     }
 
@@ -126,20 +141,20 @@ impl Caller<'_> {
         self.write(feed)
     }
 
-    /// The source of every reply that is awaited.
+    /// The source of the reply that is awaited.
     fn source(&self) -> &'static str {
-        match self.view.which {
-            Which::Dsp => "Dsp",
-            Which::Avr => "Avr",
-            Which::Pi => "Pi",
+        match (self.view.which, self.view.step.name) {
+            (Which::Dsp, _) | (Which::Arm, "WaitDspStatus") => "Dsp",
+            (Which::Pi, _) => "Pi",
+            _ => "Avr",
         }
     }
 
     fn others(&self) -> [&'static str; 3] {
-        match self.view.which {
-            Which::Dsp => ["App", "Pi", "Avr"],
-            Which::Avr => ["App", "Pi", "Dsp"],
-            Which::Pi => ["App", "Avr", "Dsp"],
+        match self.source() {
+            "Dsp" => ["App", "Pi", "Avr"],
+            "Avr" => ["App", "Pi", "Dsp"],
+            _ => ["App", "Avr", "Dsp"],
         }
     }
 
@@ -167,7 +182,35 @@ impl Caller<'_> {
     pub fn ack(&mut self, name: &str, command: u8) -> Feed {
         let mut feed = self.feed(name);
         let command = kinds::number(self.random, command);
-        feed.kind[2] = format!("acked_cmd={command}");
+        feed.set(1, command);
+        feed
+    }
+
+    /// Where the source doesn't matter.
+    pub fn feed_from_any(&mut self, name: &str) -> Feed {
+        let mut feed = self.feed(name);
+        feed.src = self.random.pick(&["Pi", "Avr", "Avr", "Dsp", "App"]);
+        feed
+    }
+
+    /// A text with one of these needles; now and then it is lent to a kind
+    /// that isn't looked at.
+    pub fn text(&mut self, needles: &[&str]) -> Feed {
+        let kinds = ["ProdInfoResp", "NetConfigResp", "DevInfoResp", "Other"];
+        let kind = match self.random.chance(8) {
+            true => self.random.pick(&kinds),
+            false => "Text",
+        };
+        let needle = self.random.pick(needles);
+        let mut feed = self.feed_from_any(kind);
+        feed.text = bytes::with_needle(self.random, needle);
+        feed
+    }
+
+    /// A text with both, apart.
+    pub fn text_with_both(&mut self, first: &str, second: &str) -> Feed {
+        let mut feed = self.feed_from_any("Text");
+        feed.text = bytes::with_both(self.random, first, second);
         feed
     }
 

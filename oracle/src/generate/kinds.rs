@@ -24,7 +24,11 @@ pub struct Kind {
     pub fields: &'static [(&'static str, Type)],
 }
 
-const fn kind(name: &'static str, type_id: u8, fields: &'static [(&'static str, Type)]) -> Kind {
+pub const fn kind(
+    name: &'static str,
+    type_id: u8,
+    fields: &'static [(&'static str, Type)],
+) -> Kind {
     Kind {
         name,
         type_id,
@@ -117,7 +121,11 @@ const CAM_CONFIG: &[(&str, Type)] = &[
 ];
 
 pub fn find(name: &str) -> &'static Kind {
-    let found = KINDS.iter().find(|kind| kind.name == name);
+    find_in(&KINDS, name)
+}
+
+pub fn find_in(table: &'static [Kind], name: &str) -> &'static Kind {
+    let found = table.iter().find(|kind| kind.name == name);
     found.expect("a kind of the table")
 }
 

@@ -1,27 +1,35 @@
 //! Makes lists of calls from a seed.
 
+mod arm;
 mod avr;
+mod avr_config;
 mod bad;
+mod bad_lines;
 mod bytes;
 mod caller;
+mod disarm;
 mod dsp;
 mod kinds;
+mod long_arm;
 mod pi;
 mod random;
 mod readings;
+mod settings;
 
 pub use bad::BadLines;
 use caller::Caller;
+use long_arm::LongArm;
 use random::Random;
 
 use crate::list::Which;
 use crate::protocol::handshake::DeviceModel;
 use crate::running::View;
 
-/// A sequence and a model, of which most start-ups of a list are.
+/// A sequence and a model, of which most sequences of a list are.
 ///
 /// A list that leans towards the DSP has the DSP's words only: no other
-/// sequence and no wall seconds. The others have all of them.
+/// sequence and no wall seconds. One that leans towards the AVR or the Pi
+/// has start-ups only. The others have all sequences.
 #[derive(Clone, Copy, PartialEq)]
 pub struct Leaning {
     pub which: Which,
@@ -32,23 +40,32 @@ const fn leaning(which: Which, model: DeviceModel) -> Leaning {
     Leaning { which, model }
 }
 
-/// Only a Mevo has a Pi.
-pub const LEANINGS: [Leaning; 5] = [
+/// Only a Mevo has a Pi. A settings run and a disarm are the same on each
+/// model.
+pub const LEANINGS: [Leaning; 9] = [
     leaning(Which::Dsp, DeviceModel::Xi),
     leaning(Which::Dsp, DeviceModel::Mevo),
     leaning(Which::Avr, DeviceModel::Xi),
     leaning(Which::Avr, DeviceModel::Mevo),
     leaning(Which::Pi, DeviceModel::Mevo),
+    leaning(Which::AvrConfig, DeviceModel::Xi),
+    leaning(Which::Disarm, DeviceModel::Xi),
+    leaning(Which::Arm, DeviceModel::Xi),
+    LONG_ARM,
 ];
+
+/// The one of which a long comparison has a long arm.
+pub const LONG_ARM: Leaning = leaning(Which::Arm, DeviceModel::Mevo);
 
 /// Makes one line after the other.
 pub struct Generator {
     random: Random,
     leaning: Leaning,
-    /// The lines that this start-up still has.
+    /// The lines that this sequence still has.
     left: u64,
-    /// The first reading of this start-up.
+    /// The first reading of this sequence.
     first: u64,
+    long_arm: Option<LongArm>,
 }
 
 impl Generator {
@@ -63,16 +80,28 @@ impl Generator {
             leaning,
             left: 0,
             first: 0,
+            long_arm: None,
         }
     }
 
-    /// Whether the next line begins a start-up.
+    /// A long arm comes next.
+    pub fn long_arm(&mut self) {
+        self.left = 40;
+        self.long_arm = Some(LongArm::default());
+    }
+
+    /// Whether the next line begins a sequence.
     pub fn at_start(&self) -> bool {
         self.left == 0
     }
 
     /// The next line, for the state that the lines before it left.
     pub fn line(&mut self, view: Option<View>) -> String {
+        let long_arm = self.long_arm.as_mut();
+        if let Some(line) = long_arm.and_then(|arm| arm.line(view)) {
+            return line;
+        }
+        self.long_arm = None;
         let Some(view) = view.filter(|_| self.left > 0) else {
             return self.begin();
         };
@@ -80,7 +109,8 @@ impl Generator {
         let words = match self.random.below(100) {
             0..3 => return comment(&mut self.random),
             3..6 => aside(&mut self.random),
-            6..10 => vec!["result".to_string()],
+            6..10 if view.which.has_result() => vec!["result".to_string()],
+            6..10 if view.which.has_retries() => vec!["retries".to_string()],
             10..13 if view.which.has_take() => vec!["take".to_string()],
             _ => self.call(view),
         };
@@ -94,20 +124,33 @@ impl Generator {
         if own == Which::Dsp {
             return own.word().to_string();
         }
-        let which = match self.random.chance(85) {
-            true => own,
-            false => self.random.pick(&Which::ALL),
+        let which = match (self.random.chance(85), own.is_start_up()) {
+            (true, _) => own,
+            (false, true) => self.random.pick(&Which::START_UPS),
+            (false, false) => self.random.pick(&Which::ALL),
         };
-        // Its table is the longest.
-        self.left += if which == Which::Pi { 10 } else { 0 };
         let words = self.begin_words(which);
         spaced(&mut self.random, &words)
     }
 
+    /// A sequence with a long table gets more lines, one with a short table
+    /// fewer.
     fn begin_words(&mut self, which: Which) -> Vec<String> {
+        match which {
+            Which::Pi => self.left += 10,
+            Which::Disarm => self.left /= 2,
+            Which::Arm => self.left -= self.left / 4,
+            Which::AvrConfig => {
+                let (words, params) = settings::words(&mut self.random);
+                self.left = self.left / 2 + 4 * params;
+                return words;
+            }
+            _ => {}
+        }
         let mut words = vec![which.word().to_string()];
         let mevo = self.leaning.model == DeviceModel::Mevo;
-        if which == Which::Avr && !(mevo && self.random.chance(40)) {
+        let with_model = matches!(which, Which::Avr | Which::Arm);
+        if with_model && !(mevo && self.random.chance(40)) {
             words.push(self.leaning.model.label().to_string());
         }
         words

@@ -1,7 +1,6 @@
 //! Clock readings.
 
 use super::random::Random;
-use crate::list::Which;
 use crate::refusal::LAST_READING;
 use crate::running::View;
 
@@ -29,7 +28,7 @@ impl Readings<'_> {
     /// A reading that is accepted.
     pub fn next(&mut self) -> u64 {
         let last = self.view.last;
-        if self.view.which == Which::Pi {
+        if !self.view.which.has_clock() {
             return self.unread();
         }
         if last == 0 {

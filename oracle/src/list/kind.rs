@@ -102,7 +102,7 @@ fn mode_set(c: &mut Cursor) -> Result<ModeSet, Bad> {
     })
 }
 
-fn param_value(c: &mut Cursor) -> Result<ParamValue, Bad> {
+pub fn param_value(c: &mut Cursor) -> Result<ParamValue, Bad> {
     let param_id = c.number_field("param_id")?;
     let value = if c.next_is("float40") {
         ParamData::Float40(c.float_field("float40")?)
@@ -112,7 +112,7 @@ fn param_value(c: &mut Cursor) -> Result<ParamValue, Bad> {
     Ok(ParamValue { param_id, value })
 }
 
-fn radar_cal(c: &mut Cursor) -> Result<RadarCal, Bad> {
+pub fn radar_cal(c: &mut Cursor) -> Result<RadarCal, Bad> {
     Ok(RadarCal {
         range_mm: c.number_field("range_mm")?,
         height_mm: c.number_field("height_mm")?,

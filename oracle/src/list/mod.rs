@@ -3,6 +3,7 @@
 mod bad;
 mod cursor;
 mod kind;
+mod settings;
 mod which;
 
 pub use bad::{Bad, Reason};
@@ -12,6 +13,7 @@ pub use which::Which;
 use crate::addr::BusAddr;
 use crate::protocol::Message;
 use crate::protocol::handshake::DeviceModel;
+use crate::seq::{AvrSettings, MevoSettings};
 
 /// The longest line that is read, in bytes without its line feed.
 pub const LONGEST: usize = 65_536;
@@ -25,6 +27,7 @@ pub enum Call {
     },
     Result,
     Take,
+    Retries,
     Ack {
         model: DeviceModel,
         src: BusAddr,
@@ -39,20 +42,34 @@ pub enum Call {
 }
 
 /// The sequence that a line begins.
-#[derive(Clone, Copy)]
 pub enum Begin {
     Dsp,
     /// With the model, if one is given.
     Avr(Option<DeviceModel>),
     Pi,
+    AvrConfig(Settings),
+    Disarm,
+    /// With the model, if one is given.
+    Arm(Option<DeviceModel>),
+}
+
+/// What a settings run is begun with: the settings, or what makes them.
+pub enum Settings {
+    Given(AvrSettings),
+    /// The mode of `AvrSettings::mode_only`.
+    ModeOnly(u8),
+    Mevo(MevoSettings),
 }
 
 impl Begin {
-    pub fn which(self) -> Which {
+    pub fn which(&self) -> Which {
         match self {
             Begin::Dsp => Which::Dsp,
             Begin::Avr(_) => Which::Avr,
             Begin::Pi => Which::Pi,
+            Begin::AvrConfig(_) => Which::AvrConfig,
+            Begin::Disarm => Which::Disarm,
+            Begin::Arm(_) => Which::Arm,
         }
     }
 }
@@ -81,20 +98,9 @@ pub fn read(line: &[u8], running: Option<Which>) -> Result<Option<Call>, Bad> {
         return Ok(None);
     }
     belongs(word, running)?;
-    let call = match word {
-        b"dsp" => Call::Begin(Begin::Dsp),
-        b"avr" => Call::Begin(Begin::Avr(given_model(&mut c)?)),
-        b"pi" => Call::Begin(Begin::Pi),
-        b"feed" => Call::Feed(Box::new(feed(&mut c)?)),
-        b"check" => Call::Check { now: c.number()? },
-        b"result" => Call::Result,
-        b"take" => Call::Take,
-        b"ack" => ack(&mut c)?,
-        b"keepalive" => Call::Keepalive {
-            model: given_model(&mut c)?,
-        },
-        b"model" => model_of(&mut c)?,
-        _ => return Err(Bad::at(at, Reason::UnknownCall)),
+    let call = match begin(word, &mut c)? {
+        Some(begin) => Call::Begin(begin),
+        None => call(word, &mut c)?.ok_or(Bad::at(at, Reason::UnknownCall))?,
     };
     c.end()?;
     Ok(Some(call))
@@ -102,12 +108,51 @@ pub fn read(line: &[u8], running: Option<Which>) -> Result<Option<Call>, Bad> {
 
 /// A call of a sequence can't be read while none runs, or one without it.
 fn belongs(word: &[u8], running: Option<Which>) -> Result<(), Bad> {
-    match (word, running) {
-        (b"feed" | b"check" | b"result" | b"take", None) => Err(Bad::at(0, Reason::NoSequence)),
-        (b"check", Some(which)) if !which.has_check() => Err(Bad::at(0, Reason::NotOfSequence)),
-        (b"take", Some(which)) if !which.has_take() => Err(Bad::at(0, Reason::NotOfSequence)),
-        _ => Ok(()),
+    let has: fn(Which) -> bool = match word {
+        b"feed" => |_| true,
+        b"check" => Which::has_check,
+        b"result" => Which::has_result,
+        b"take" => Which::has_take,
+        b"retries" => Which::has_retries,
+        _ => return Ok(()),
+    };
+    match running {
+        None => Err(Bad::at(0, Reason::NoSequence)),
+        Some(which) if !has(which) => Err(Bad::at(0, Reason::NotOfSequence)),
+        Some(_) => Ok(()),
     }
+}
+
+/// A call that begins a sequence, if the word is one's.
+fn begin(word: &[u8], c: &mut Cursor) -> Result<Option<Begin>, Bad> {
+    Ok(Some(match word {
+        b"dsp" => Begin::Dsp,
+        b"avr" => Begin::Avr(given_model(c)?),
+        b"pi" => Begin::Pi,
+        b"avr_config" => Begin::AvrConfig(settings::given(c)?),
+        b"mode_only" => Begin::AvrConfig(settings::mode_only(c)?),
+        b"mevo_settings" => Begin::AvrConfig(settings::mevo(c)?),
+        b"disarm" => Begin::Disarm,
+        b"arm" => Begin::Arm(given_model(c)?),
+        _ => return Ok(None),
+    }))
+}
+
+/// Any other call, if the word is one's.
+fn call(word: &[u8], c: &mut Cursor) -> Result<Option<Call>, Bad> {
+    Ok(Some(match word {
+        b"feed" => Call::Feed(Box::new(feed(c)?)),
+        b"check" => Call::Check { now: c.number()? },
+        b"result" => Call::Result,
+        b"take" => Call::Take,
+        b"retries" => Call::Retries,
+        b"ack" => ack(c)?,
+        b"keepalive" => Call::Keepalive {
+            model: given_model(c)?,
+        },
+        b"model" => model_of(c)?,
+        _ => return Ok(None),
+    }))
 }
 
 fn feed(c: &mut Cursor) -> Result<Feed, Bad> {

@@ -2,14 +2,16 @@
 
 mod records;
 
-pub use records::{avr_status, cam_config, dev_info, dsp_status, hw_info, nack, params, payload};
+pub use records::{
+    avr_status, cam_config, dev_info, dsp_status, hw_info, nack, params, payload, settings,
+};
 
 use crate::addr::BusAddr;
 use crate::protocol::Command;
-use crate::protocol::config::{ParamData, ParamValue};
+use crate::protocol::config::{ParamData, ParamValue, RadarCal};
 use crate::protocol::handshake::TimeSync;
 use crate::protocol::status::ConfigAck;
-use crate::running::Step;
+use crate::running::{Fields, Step};
 use crate::seq::Action;
 
 const DIGITS: [char; 16] = [
@@ -111,8 +113,14 @@ pub fn reading(out: &mut String, field: &str, value: Option<u64>) {
 pub fn step(out: &mut String, step: Step) {
     out.push_str("; ");
     out.push_str(step.name);
-    if let Some(index) = step.index {
-        number(out, "idx", index as u64);
+    match step.fields {
+        Fields::None => {}
+        Fields::Idx(idx) => number(out, "idx", idx as u64),
+        Fields::ParamIdx(idx) => number(out, "param_idx", idx as u64),
+        Fields::Got { pi, armed } => {
+            boolean(out, "got_pi", pi);
+            boolean(out, "got_armed", armed);
+        }
     }
 }
 
@@ -150,10 +158,7 @@ fn command(out: &mut String, command: &Command) {
         Command::AvrConfigCmd(c) => boolean(out, "arm", c.arm),
         Command::ParamReadReq(c) => hex(out, "param_id", c.param_id),
         Command::ParamValue(c) => param_value(out, c),
-        Command::RadarCal(c) => {
-            number(out, "range_mm", c.range_mm);
-            number(out, "height_mm", c.height_mm);
-        }
+        Command::RadarCal(c) => radar_cal(out, "range_mm", c),
         Command::ProdInfoReq(c) => hex(out, "sub_query", c.sub_query),
         Command::NetConfigReq(c) => boolean(out, "query_password", c.query_password),
         Command::CalDataReq(c) => {
@@ -195,6 +200,12 @@ fn param_value(out: &mut String, param: &ParamValue) {
         ParamData::Int24(value) => number(out, "int24", value),
         ParamData::Float40(value) => float(out, "float40", value),
     }
+}
+
+/// A calibration, its first field under this name.
+fn radar_cal(out: &mut String, range_mm: &str, cal: &RadarCal) {
+    number(out, range_mm, cal.range_mm);
+    number(out, "height_mm", cal.height_mm);
 }
 
 fn time_sync(out: &mut String, sync: &TimeSync) {

@@ -1,12 +1,14 @@
 //! Writes the records that a sequence stores. One that is absent is `none`.
 
-use super::{boolean, bytes, config_ack, decimal, float, hex, name, none, number, source, word};
+use super::{boolean, bytes, config_ack, decimal, float, hex, name, none, number, param_value};
+use super::{radar_cal, source, word};
 use crate::conn::Envelope;
 use crate::protocol::Message;
 use crate::protocol::camera::CamConfig;
 use crate::protocol::config::ConfigResp;
 use crate::protocol::handshake::{DevInfoResp, DspQueryResp};
 use crate::protocol::status::{AvrStatus, DspStatus, DspStatus80};
+use crate::seq::AvrSettings;
 
 pub fn dsp_status(out: &mut String, status: Option<&DspStatus>) {
     match status {
@@ -148,6 +150,19 @@ fn sub_sampling(out: &mut String, config: &CamConfig) {
         "buffer_sub_sampling_pre_trigger_buffer_size",
         config.buffer_sub_sampling_pre_trigger_buffer_size,
     );
+}
+
+/// The settings of a settings run.
+pub fn settings(out: &mut String, settings: &AvrSettings) {
+    number(out, "mode", settings.mode);
+    number(out, "params", settings.params.len() as u64);
+    for param in &settings.params {
+        param_value(out, param);
+    }
+    match &settings.radar_cal {
+        None => none(out, "radar_cal"),
+        Some(cal) => radar_cal(out, "radar_cal=range_mm", cal),
+    }
 }
 
 /// The fields of a nack that was kept.

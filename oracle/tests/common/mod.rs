@@ -8,7 +8,7 @@ use oracle::front;
 pub const PARAMS: &str = "1,-2,3,4,5,6,7,8,9,10,11,12,13,14,15,16,17,18,19,20,21,22,23,24,25,26,27,28,\
     29,30,31,32,32767,-32768";
 
-fn answers(list: &str, with_state: bool) -> String {
+pub fn answers(list: &str, with_state: bool) -> String {
     let mut out = Vec::new();
     front::run(&mut list.as_bytes(), &mut out, with_state).unwrap();
     String::from_utf8(out).unwrap()
@@ -31,6 +31,13 @@ pub fn check_pairs(pairs: &[(&str, &str)]) {
     check(&list, &expected);
 }
 
+/// The same of pairs that were made.
+#[track_caller]
+pub fn check_made(pairs: &[(String, String)]) {
+    let pairs: Vec<(&str, &str)> = pairs.iter().map(|(l, a)| (&l[..], &a[..])).collect();
+    check_pairs(&pairs);
+}
+
 /// The states alone; of a line without one, its answer.
 #[track_caller]
 pub fn check_states(list: &str, expected: &[&str]) {
@@ -47,7 +54,8 @@ pub fn check_last_states(list: &str, expected: &[&str]) {
     assert_eq!(states[states.len() - expected.len()..], *expected);
 }
 
+/// A disarm's is empty.
 fn state(answer: &str) -> &str {
-    let found = answer.split_once("; state ");
-    found.map_or(answer, |(_, state)| state)
+    let found = answer.split_once("; state");
+    found.map_or(answer, |(_, state)| state.trim_start())
 }

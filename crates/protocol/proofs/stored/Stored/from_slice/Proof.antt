@@ -2,28 +2,21 @@
 -- Assumes nothing.
 use mathlib.Core.Path.{_≡_, refl}
 use mathlib.Core.Logic.{⊎-elim}
-use mathlib.Core.List.{List, _++_, append-assoc}
-use Prim.Native.Nat.{ℕ, suc, _+_, _-_, _<_, _≤_, min}
-use native.Mathlib.Numerals.{add-one}
+use mathlib.Core.List.{List}
+use Prim.Native.Nat.{ℕ, _-_, _<_, _≤_, min}
 use native.Mathlib.Omega.{arith}
 use denote.Ref.{now}
-use lib.ListN.{length, getD, set, take, replicate}
-use lib.Seq.{take-suc, take-all, take-length, length-take-le, set-at}
+use lib.ListN.{length}
+use lib.Seq.{take-all, take-length}
 use Rattle.protocol.specs.Stored.{stored}
 use Rattle.protocol.specs.declared.stored.Stored.{Stored}
+use Rattle.protocol.proofs.Filled as law
 use Rattle.protocol.proofs.stored.Stored.from_slice.Statement.{statement}
 use Rattle.protocol.proofs.stored.Stored.from_slice.Tie as tie
 
 -- the first i bytes of s, then zeros
 abbrev filled : List ℕ → ℕ → List ℕ
-filled s i = take i s ++ replicate (256 - i) 0
-
--- one more
-more : (s : List ℕ) (i : ℕ) → i < length s → i < 256 → set (filled s i) i (getD s i 0) ≡ filled s (i + 1)
-more s i h k =
-    let e : 256 - i ≡ suc (256 - suc i) = omega arith in
-    rw (e, add-one, take-suc s i 0, append-assoc)
-    (set-at (take i s) 0 (replicate (256 - suc i) 0) (getD s i 0) i (length-take-le i s (omega arith)))
+filled s i = law.filled 256 0 s i
 
 -- with n of them, 256 or all, it is what is to be stored
 long : (s : List ℕ) (n : ℕ) → 256 < length s → n ≡ 256 → _≡_ {A = Stored} (record { bytes = filled s n; len = n }) (stored s)
@@ -68,7 +61,7 @@ loop-again c =
       omega arith,
       omega arith,
       omega arith,
-      rw (at-loop .loop .inv .3) (more (now (at-loop .before .before .args .s)) (at-loop .loop .i) (omega arith) (omega arith)),
+      rw (at-loop .loop .inv .3) (law.more 256 0 (now (at-loop .before .before .args .s)) (at-loop .loop .i) (omega arith) (omega arith)),
     )
 
 returns : tie.Need-returns Inv-loop μ-loop

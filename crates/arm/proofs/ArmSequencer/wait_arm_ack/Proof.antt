@@ -1,0 +1,59 @@
+-- `wait_arm_ack` meets its contract.
+-- Assumes nothing.
+use mathlib.Core.Path.{_∙_}
+use Rattle.protocol.specs.declared.addr.BusAddr.{BusAddr}
+use Rattle.protocol.proofs.Arms.{but, kinds, none-of, elsewhere}
+use borrow.Author.Needs.{needs}
+use Rattle.arm.proofs.ArmSequencer.wait_arm_ack.Statement.{statement}
+use Rattle.arm.proofs.ArmSequencer.wait_arm_ack.Tie as tie
+
+enum-told : tie.Need-enum-told
+enum-told c = search needs
+
+enum-told-2 : tie.Need-enum-told-2
+enum-told-2 c = search needs
+
+retry-requires : tie.Need-retry-requires
+retry-requires c κs = search needs
+
+enum-told-3 : tie.Need-enum-told-3
+enum-told-3 c = search needs
+
+taken-requires : tie.Need-taken-requires
+taken-requires c κs = search needs
+
+idle-requires : tie.Need-idle-requires
+idle-requires c κs = search needs
+
+idle-requires-2 : tie.Need-idle-requires-2
+idle-requires-2 c κs = search needs
+
+returns : tie.Need-returns
+returns c = c .retry .ensures ∙ rw (c .before .before .before .enum-told .given .1, c .before .enum-told2 .given .1)
+
+returns-2 : tie.Need-returns-2
+returns-2 c = c .taken .ensures ∙ rw (c .before .before .before .enum-told .given .1, c .before .enum-told3 .given .1)
+
+returns-3 : tie.Need-returns-3
+returns-3 c = let m = c .before .before .before .before .args .message in
+    let ks = but 3 (but 4 kinds) in
+    c .idle .ensures ∙ rw (c .before .before .enum-told .given .1, none-of ks 4 m tt (c .before .match2 .keys3), none-of ks 3 m tt (c .before .match2 .keys3))
+
+returns-4 : tie.Need-returns-4
+returns-4 c = c .idle2 .ensures ∙ rw (elsewhere BusAddr.Avr (c .before .before .args .src) (c .before .match .keys2))
+
+pub wait-arm-ack-spec : {M : Type 1} → statement M
+wait-arm-ack-spec =
+    tie.close
+    (tie.spec
+    enum-told
+    enum-told-2
+    retry-requires
+    enum-told-3
+    taken-requires
+    idle-requires
+    idle-requires-2
+    returns
+    returns-2
+    returns-3
+    returns-4)

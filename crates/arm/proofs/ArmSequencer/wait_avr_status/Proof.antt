@@ -1,0 +1,49 @@
+-- `wait_avr_status` meets its contract.
+-- Assumes nothing.
+use mathlib.Core.Path.{_∙_}
+use Rattle.protocol.specs.declared.addr.BusAddr.{BusAddr}
+use Rattle.protocol.proofs.Arms.{other, elsewhere}
+use borrow.Author.Needs.{needs}
+use Rattle.arm.proofs.ArmSequencer.wait_avr_status.Statement.{statement}
+use Rattle.arm.proofs.ArmSequencer.wait_avr_status.Tie as tie
+
+enum-told : tie.Need-enum-told
+enum-told c = search needs
+
+enum-told-2 : tie.Need-enum-told-2
+enum-told-2 c = search needs
+
+avr-config-cmd-requires : tie.Need-avr-config-cmd-requires
+avr-config-cmd-requires c κs = search needs
+
+to-requires : tie.Need-to-requires
+to-requires c κs = search needs
+
+idle-requires : tie.Need-idle-requires
+idle-requires c κs = search needs
+
+idle-requires-2 : tie.Need-idle-requires-2
+idle-requires-2 c κs = search needs
+
+returns : tie.Need-returns
+returns c = c .to .ensures ∙ rw (c .before .before .before .before .enum-told .given .1, c .before .before .enum-told2 .given .1, c .before .avr-config-cmd .ensures)
+
+returns-2 : tie.Need-returns-2
+returns-2 c = c .idle .ensures ∙ rw (c .before .before .enum-told .given .1, other 0 (c .before .before .before .before .args .message) tt (c .before .match2 .keys2))
+
+returns-3 : tie.Need-returns-3
+returns-3 c = c .idle2 .ensures ∙ rw (elsewhere BusAddr.Avr (c .before .before .args .src) (c .before .match .keys2))
+
+pub wait-avr-status-spec : {M : Type 1} → statement M
+wait-avr-status-spec =
+    tie.close
+    (tie.spec
+    enum-told
+    enum-told-2
+    avr-config-cmd-requires
+    to-requires
+    idle-requires
+    idle-requires-2
+    returns
+    returns-2
+    returns-3)

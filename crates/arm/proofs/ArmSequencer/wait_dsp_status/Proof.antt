@@ -1,0 +1,49 @@
+-- `wait_dsp_status` meets its contract.
+-- Assumes nothing.
+use mathlib.Core.Path.{_∙_}
+use Rattle.protocol.specs.declared.addr.BusAddr.{BusAddr}
+use Rattle.protocol.proofs.Arms.{other, elsewhere}
+use borrow.Author.Needs.{needs}
+use Rattle.arm.proofs.ArmSequencer.wait_dsp_status.Statement.{statement}
+use Rattle.arm.proofs.ArmSequencer.wait_dsp_status.Tie as tie
+
+enum-told : tie.Need-enum-told
+enum-told c = search needs
+
+enum-told-2 : tie.Need-enum-told-2
+enum-told-2 c = search needs
+
+status-poll-requires : tie.Need-status-poll-requires
+status-poll-requires c κs = search needs
+
+to-requires : tie.Need-to-requires
+to-requires c κs = search needs
+
+idle-requires : tie.Need-idle-requires
+idle-requires c κs = search needs
+
+idle-requires-2 : tie.Need-idle-requires-2
+idle-requires-2 c κs = search needs
+
+returns : tie.Need-returns
+returns c = c .to .ensures ∙ rw (c .before .before .before .before .enum-told .given .1, c .before .before .enum-told2 .given .1, c .before .status-poll .ensures)
+
+returns-2 : tie.Need-returns-2
+returns-2 c = c .idle .ensures ∙ rw (c .before .before .enum-told .given .1, other 1 (c .before .before .before .before .args .message) tt (c .before .match2 .keys2))
+
+returns-3 : tie.Need-returns-3
+returns-3 c = c .idle2 .ensures ∙ rw (elsewhere BusAddr.Dsp (c .before .before .args .src) (c .before .match .keys2))
+
+pub wait-dsp-status-spec : {M : Type 1} → statement M
+wait-dsp-status-spec =
+    tie.close
+    (tie.spec
+    enum-told
+    enum-told-2
+    status-poll-requires
+    to-requires
+    idle-requires
+    idle-requires-2
+    returns
+    returns-2
+    returns-3)

@@ -1,0 +1,47 @@
+// A disarm: its steps, and its answers.
+use crate::Answered;
+use crate::Running;
+use disarm::DisarmFed;
+use disarm::DisarmSequencer;
+use disarm::DisarmStep;
+use writing::send;
+use writing::write;
+use writing::write::OUT;
+
+fn number_of(step: DisarmStep) -> usize {
+    match step {
+        DisarmStep::WaitAck => 0,
+        DisarmStep::WaitModeReset => 1,
+        DisarmStep::WaitStateIdle => 2,
+        DisarmStep::Done => 3,
+    }
+}
+
+fn name(out: &mut [u8; OUT], at: usize, step: DisarmStep) -> usize {
+    let names = b"WaitAck WaitModeReset WaitStateIdle Done";
+    write::choice(out, at, number_of(step), names, b' ')
+}
+
+pub fn begin(out: &mut [u8; OUT], at: usize) -> Answered {
+    let started = DisarmSequencer::new();
+    let action = started.action;
+    let disarm = started.seq;
+    let step = disarm.step;
+    let end = send::sent(out, at, action);
+    Answered {
+        running: Running::Disarm(disarm),
+        at: name(out, end, step),
+    }
+}
+
+pub fn fed(out: &mut [u8; OUT], at: usize, fed: DisarmFed) -> Answered {
+    let outcome = fed.outcome;
+    let action = fed.action;
+    let disarm = fed.seq;
+    let step = disarm.step;
+    let end = send::fed(out, at, outcome, action);
+    Answered {
+        running: Running::Disarm(disarm),
+        at: name(out, end, step),
+    }
+}

@@ -1,0 +1,4 @@
+pub mod InOrder
+pub mod Matched
+pub mod Whole
+pub mod Days

@@ -1,0 +1,61 @@
+-- What the calls of a settings run answer: refused with the lowest number that applies, or by the row at the step. There is no clock.
+-- Definitions only.
+-- Assumes nothing.
+use Prim.Native.Nat.{ℕ}
+use mathlib.Core.Bool.{Bool, cond}
+use mathlib.Core.List.{List, [], _∷_}
+use lib.Dec.{ltb}
+use Rattle.protocol.specs.declared.refusal.Outcome.{Outcome}
+use Rattle.protocol.specs.Action.{noAction}
+use Rattle.protocol.specs.Refusals.{Applies, outcome, lowest}
+use Rattle.sequence.specs.Accepted.{applies, bytesOutcome, none}
+use Rattle.sequence.specs.Events.{Envelope, Event, fed}
+use Rattle.sequence.specs.Rows.{State, Moved, noDeadline, heardAt, heard, judged}
+use Rattle.settings.specs.declared.AvrSettings.{AvrSettings}
+use Rattle.settings.specs.Settings.{modeOnly, kept}
+use Rattle.avr_config.specs.declared.AvrConfigStep.{AvrConfigStep}
+use Rattle.avr_config.specs.declared.AvrConfigStep.the-variants.{WaitInitGateAck}
+use Rattle.avr_config.specs.declared.AvrConfigSequencer.{AvrConfigSequencer}
+use Rattle.avr_config.specs.declared.AvrConfigFed.{AvrConfigFed}
+use Rattle.avr_config.specs.Table.{commit, request, row, next}
+
+-- 4: a settings list of more than 32 parameters
+abbrev pub settingsRefusals : AvrSettings → List Applies
+settingsRefusals s = applies 4 (ltb 32 (s .len)) ∷ []
+
+-- what is run: the settings as they are stored; beside a refusal mode 0, no parameters and no calibration
+abbrev pub running : AvrSettings → AvrSettings
+running s = cond (none (settingsRefusals s)) (kept s) (modeOnly 0)
+
+-- new sends a commit; beside a refusal nothing is sent
+abbrev pub begun : AvrSettings → AvrConfigFed
+begun s = record {
+  outcome = outcome (lowest (settingsRefusals s));
+  action = cond (none (settingsRefusals s)) commit noAction;
+  seq = record { step = WaitInitGateAck; settings = running s };
+}
+
+-- the sequencer as the common rows have it, and back
+abbrev pub view : AvrConfigSequencer → State AvrConfigStep (Unit {0})
+view s = record { step = s .step; replies = tt; deadline = noDeadline }
+
+abbrev pub made : AvrSettings → Moved AvrConfigStep (Unit {0}) → AvrConfigFed
+made s w = record { outcome = Outcome.Accepted; action = w .action; seq = record { step = w .state .step; settings = s } }
+
+-- no send, and the sequencer as before
+abbrev pub refused : AvrConfigSequencer → Outcome → AvrConfigFed
+refused s o = record { outcome = o; action = noAction; seq = s }
+
+abbrev pub advance : AvrConfigSequencer → Event Envelope → AvrConfigFed
+advance s e = made (s .settings) (heard (row (s .settings)) (next (s .settings)) (view s) e)
+
+abbrev pub fedTo : AvrConfigSequencer → Envelope → AvrConfigFed
+fedTo s e = judged (bytesOutcome (e .text) (e .payload)) (advance s (fed e 0)) (refused s)
+
+-- the step k begins: its request is sent
+abbrev pub goes : AvrConfigSequencer → AvrConfigStep → AvrConfigFed
+goes s k = record { outcome = Outcome.Accepted; action = request (s .settings) k; seq = record { step = k; settings = s .settings } }
+
+-- one step's part of it
+abbrev pub armAt : AvrConfigStep → AvrConfigSequencer → Event Envelope → AvrConfigFed
+armAt k s e = made (s .settings) (heardAt (row (s .settings) k) (next (s .settings) k) (row (s .settings) (next (s .settings) k)) (view s) e)

@@ -1,0 +1,158 @@
+// The calls of a settings run, and what they answer.
+mod given;
+mod stored;
+
+use avr_config::AvrConfigFed;
+use avr_config::AvrConfigSequencer;
+use avr_config::AvrConfigStep;
+use device_calls::next::Turn;
+use device_calls::next::next;
+use reading::bytes::BYTES;
+use reading::call::Call;
+use reading::call::Calls;
+use reading::call::Feed;
+use reading::settings::Settings;
+use streams::INPUT;
+use streams::LONGER;
+use streams::Stream;
+use words::kinds::VALUES;
+use words::part;
+use writing::fields;
+use writing::send;
+use writing::write;
+use writing::write::OUT;
+
+const CALLS: Calls = Calls {
+    feed: true,
+    check: false,
+    result: false,
+    take: false,
+    retries: false,
+};
+
+// The run after a call, and the end of the answer.
+struct Answered {
+    run: AvrConfigSequencer,
+    at: usize,
+}
+
+fn number_of(step: AvrConfigStep) -> usize {
+    match step {
+        AvrConfigStep::WaitInitGateAck => 0,
+        AvrConfigStep::WaitParamAck { param_idx: _ } => 1,
+        AvrConfigStep::WaitParamCommitAck { param_idx: _ } => 2,
+        AvrConfigStep::WaitModeEcho => 3,
+        AvrConfigStep::WaitModeCommitAck => 4,
+        AvrConfigStep::WaitRadarCalEcho => 5,
+        AvrConfigStep::WaitRadarCalCommitAck => 6,
+        AvrConfigStep::Done => 7,
+    }
+}
+
+fn index(out: &mut [u8; OUT], at: usize, param_idx: usize) -> usize {
+    fields::number(out, at, b"param_idx", param_idx as u64)
+}
+
+fn name(out: &mut [u8; OUT], at: usize, step: AvrConfigStep) -> usize {
+    let names =
+        b"WaitInitGateAck WaitParamAck WaitParamCommitAck WaitModeEcho WaitModeCommitAck WaitRadarCalEcho \
+        WaitRadarCalCommitAck Done";
+    let end = write::choice(out, at, number_of(step), names, b' ');
+    match step {
+        AvrConfigStep::WaitParamAck { param_idx } => index(out, end, param_idx),
+        AvrConfigStep::WaitParamCommitAck { param_idx } => index(out, end, param_idx),
+        _ => end,
+    }
+}
+
+// A run that has begun answers as one that was fed.
+fn fed(out: &mut [u8; OUT], at: usize, fed: AvrConfigFed) -> Answered {
+    let outcome = fed.outcome;
+    let action = fed.action;
+    let run = fed.seq;
+    let step = run.step;
+    let end = send::fed(out, at, outcome, action);
+    Answered {
+        run: run,
+        at: name(out, end, step),
+    }
+}
+
+fn begin(settings: Settings, values: &[u64; VALUES], out: &mut [u8; OUT], at: usize) -> Answered {
+    fed(
+        out,
+        at,
+        AvrConfigSequencer::new(given::settings(settings, values)),
+    )
+}
+
+fn feed(
+    run: AvrConfigSequencer,
+    feed: Feed,
+    values: &[u64; VALUES],
+    bytes: &[u8; BYTES],
+    out: &mut [u8; OUT],
+    at: usize,
+) -> Answered {
+    let src = feed.src;
+    let message = messages::message(feed.kind, values);
+    let text = part(bytes, 0, feed.text);
+    let payload = part(bytes, feed.text, feed.payload);
+    fed(out, at, run.feed(src, feed.type_id, message, text, payload))
+}
+
+// A call of a run that has begun: it has no other than `feed`.
+fn call(
+    done: Answered,
+    turn: Turn,
+    values: &[u64; VALUES],
+    bytes: &[u8; BYTES],
+    out: &mut [u8; OUT],
+) -> Answered {
+    let run = done.run;
+    let at = turn.stream.out;
+    let asked = turn.call;
+    match asked {
+        Call::Feed(envelope) => feed(run, envelope, values, bytes, out, at),
+        _ => Answered { run: run, at: at },
+    }
+}
+
+// Ends an answer, with every stored field if they are asked for.
+fn end(done: Answered, stream: Stream, out: &mut [u8; OUT]) -> Stream {
+    if stream.with_state {
+        let run = done.run;
+        let settings = run.settings;
+        let end = stored::state(out, done.at, settings);
+        return stream.answered(out, end);
+    }
+    stream.answered(out, done.at)
+}
+
+// A run from its beginning, whose number is written, to the beginning of the next sequence or the end of the list. The calls are
+// counted down, as reads are.
+pub fn run(
+    settings: Settings,
+    stream: Stream,
+    input: &mut [u8; INPUT],
+    line: &mut [u8; LONGER],
+    values: &mut [u64; VALUES],
+    bytes: &mut [u8; BYTES],
+    out: &mut [u8; OUT],
+) -> Turn {
+    let mut done = begin(settings, values, out, stream.out);
+    let mut turn = Turn::without_call(stream);
+    let mut turns = u64::MAX;
+    loop {
+        let ended = end(done, turn.stream, out);
+        turn = next(ended, CALLS, input, line, values, bytes, out);
+        if turn.leaves() {
+            return turn;
+        }
+        done = call(done, turn, values, bytes, out);
+        if turns == 0 {
+            return turn;
+        }
+        turns -= 1;
+    }
+}
