@@ -1,25 +1,51 @@
 -- What an arm's step decides, and what no step looks at.
 -- Assumes nothing.
 use mathlib.Core.Path.{_≡_, refl, sym, ap}
-use mathlib.Core.Bool.{true}
-use Prim.Native.Nat.{_≤_, _<_}
+use mathlib.Core.Bool.{Bool, true, false, _||_, and-false}
+use Prim.Native.Nat.{ℕ, _≤_, _<_}
 use native.Mathlib.Omega.{arith}
+use lib.Dec.{eqb}
 use Rattle.protocol.specs.declared.refusal.Refusal.{Refusal}
 use Rattle.protocol.specs.declared.refusal.Outcome.{Outcome}
 use Rattle.protocol.specs.Refusals.{Applies, outcome, lowest}
 use Rattle.protocol.proofs.Numbers.{Rises, end, then, Listed, lowest-least}
 use Rattle.sequence.specs.Accepted.{bytesOutcome}
-use Rattle.sequence.specs.Events.{Envelope, plain}
+use Rattle.protocol.specs.Addr.{byteOf}
+use Rattle.sequence.specs.Events.{Envelope, plain, ofKind, kind}
 use Rattle.sequence.specs.Rows.{judged}
 use Rattle.sequence.proofs.Acceptance.{bytes-first, bytes-pass}
 use Rattle.sequence.proofs.Arms.{judged-refused}
 use Rattle.arm.specs.declared.ArmStep.{ArmStep}
 use Rattle.arm.specs.declared.ArmStep.the-variants.{WaitDspStatus, WaitAvrStatus, WaitArmAck, WaitPiAndArmed, Done}
 use Rattle.arm.specs.declared.ArmSequencer.{ArmSequencer}
-use Rattle.arm.specs.Answers.{advanceAt, refused, retriesRefusals, armRefusals, answeredAt, fedTo}
+use Rattle.arm.specs.Answers.{dspStatus, avrStatus, nack, ack, piStatus, armed, idle, gathered, advanceAt, refused, retriesRefusals, armRefusals, answeredAt, fedTo}
 
 pub at-step : (s : ArmSequencer) (e : Envelope) (k : ArmStep) → s .step ≡ k → answeredAt k s e ≡ answeredAt (s .step) s e
 at-step s e k h = ap (λ (j : ArmStep). answeredAt j s e) (sym h)
+
+-- ---- what the arms tell, as laws: rewriting through a whole answer is what costs time
+
+-- an envelope of another kind, or from another device
+pub other-kind : (n k : ℕ) (e : Envelope) → ofKind k e ≡ false → kind n k e ≡ false
+other-kind n k e h = rw h (and-false (eqb (byteOf (e .src)) n))
+
+pub other-source : (n k : ℕ) (e : Envelope) → eqb (byteOf (e .src)) n ≡ false → kind n k e ≡ false
+other-source n k e h = rw h
+
+-- one that the step doesn't name changes nothing
+pub dsp-idles : (s : ArmSequencer) (e : Envelope) → dspStatus e ≡ false → idle s ≡ advanceAt WaitDspStatus s e
+dsp-idles s e h = rw h
+
+pub avr-idles : (s : ArmSequencer) (e : Envelope) → avrStatus e ≡ false → idle s ≡ advanceAt WaitAvrStatus s e
+avr-idles s e h = rw h
+
+pub ack-idles : (s : ArmSequencer) (e : Envelope) → nack e ≡ false → ack e ≡ false → idle s ≡ answeredAt WaitArmAck s e
+ack-idles s e n a = rw (n, a)
+
+-- which of the two have come then
+pub gathers : (pi arm x y : Bool) (s : ArmSequencer) (e : Envelope) → pi || piStatus e ≡ x → arm || armed e ≡ y
+    → gathered s x y ≡ advanceAt (WaitPiAndArmed pi arm) s e
+gathers pi arm x y s e p a = rw (p, a)
 
 -- no step looks at more than the source, the message and the text
 pub unread : (k : ArmStep) (s : ArmSequencer) (e : Envelope) → answeredAt k s (plain (e .src) (e .message) (e .text)) ≡ answeredAt k s e
