@@ -13,7 +13,7 @@ use Rattle.device.specs.declared.model.DeviceModel.{DeviceModel}
 use Rattle.sequence.specs.Events.{Envelope, plain}
 use Rattle.arm.specs.declared.ArmStep.{ArmStep}
 use Rattle.arm.specs.Answers.{armedBytes, cancelledBytes}
-use Rattle.arm_runs.specs.Theorem.{run, nacks, isArmed, state}
+use Rattle.arm_runs.specs.Theorem.{run, nacks, armedSince, state}
 use Rattle.arm_runs.proofs.Whole.{right}
 
 abbrev dsp : Envelope
@@ -73,5 +73,5 @@ pub pi-first : state DeviceModel.Mevo (dsp ∷ avr ∷ ack ∷ pi ∷ text armed
 pi-first = right DeviceModel.Mevo (dsp ∷ avr ∷ ack ∷ pi ∷ text armedBytes ∷ []) .done .1 refl
 
 -- and back: what is done has been seen in the list
-pub seen : isArmed DeviceModel.Mevo (nacks (run (mevo ++ pi ∷ [])) .since) ≡ true
+pub seen : armedSince DeviceModel.Mevo (nacks (run (mevo ++ pi ∷ [])) .since) ≡ true
 seen = right DeviceModel.Mevo (mevo ++ pi ∷ []) .done .0 text-first

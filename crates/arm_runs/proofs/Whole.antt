@@ -27,7 +27,7 @@ use Rattle.arm.specs.declared.ArmFed.{ArmFed}
 use Rattle.arm.specs.Answers.{dspStatus, avrStatus, ack, nack, piStatus, armed, answeredAt, fedTo}
 use Rattle.arm.specs.Calls.{after}
 use Rattle.arm.proofs.Steps.{by-step, by-bytes}
-use Rattle.arm_runs.specs.Theorem.{run, inOrder, asked, taken, counted, Nacks, nacksFrom, nacks, isArmed, Right, Theorem}
+use Rattle.arm_runs.specs.Theorem.{run, inOrder, statuses, acknowledged, counted, Nacks, nacksFrom, nacks, armedSince, Right, Theorem}
 use Rattle.arm_runs.proofs.InOrder.{snoc, fewer}
 
 -- ---- the state, by what has been passed: d the DSP's status, v the AVR's, k the acknowledgement, p the Pi's status, t the armed text
@@ -41,7 +41,7 @@ stateBy cam d v k p t n = record { step = stepOf cam d v k p t; retries = n; «w
 
 abbrev stateOf : Bool → ℕ → List Envelope → ArmSequencer
 stateOf cam n a =
-    stateBy cam (inOrder (dspStatus ∷ []) a) (inOrder asked a) (inOrder taken a) (inOrder (taken ++ piStatus ∷ []) a) (inOrder (taken ++ armed ∷ []) a) n
+    stateBy cam (inOrder (dspStatus ∷ []) a) (inOrder statuses a) (inOrder acknowledged a) (inOrder (acknowledged ++ piStatus ∷ []) a) (inOrder (acknowledged ++ armed ∷ []) a) n
 
 -- a test is passed only after those before it
 pub record Falls (d v k p t : Bool) : Type 0 where
@@ -51,12 +51,12 @@ pub record Falls (d v k p t : Bool) : Type 0 where
   pub text : k ≡ false → t ≡ false
 
 falls : (a : List Envelope)
-    → Falls (inOrder (dspStatus ∷ []) a) (inOrder asked a) (inOrder taken a) (inOrder (taken ++ piStatus ∷ []) a) (inOrder (taken ++ armed ∷ []) a)
+    → Falls (inOrder (dspStatus ∷ []) a) (inOrder statuses a) (inOrder acknowledged a) (inOrder (acknowledged ++ piStatus ∷ []) a) (inOrder (acknowledged ++ armed ∷ []) a)
 falls a = record {
   second = fewer (dspStatus ∷ []) avrStatus a;
-  third = fewer asked ack a;
-  pi = fewer taken piStatus a;
-  text = fewer taken armed a;
+  third = fewer statuses ack a;
+  pi = fewer acknowledged piStatus a;
+  text = fewer acknowledged armed a;
 }
 
 -- ---- one feed
@@ -129,16 +129,16 @@ at-any cam false v k p t n e l f =
 -- one more envelope
 more : (cam : Bool) (n : ℕ) (a : List Envelope) (e : Envelope)
     → stateOf cam n (a ++ e ∷ [])
-    ≡ stateBy cam (inOrder (dspStatus ∷ []) a || dspStatus e) (inOrder asked a || (inOrder (dspStatus ∷ []) a && avrStatus e))
-    (inOrder taken a || (inOrder asked a && ack e)) (inOrder (taken ++ piStatus ∷ []) a || (inOrder taken a && piStatus e))
-    (inOrder (taken ++ armed ∷ []) a || (inOrder taken a && armed e)) n
+    ≡ stateBy cam (inOrder (dspStatus ∷ []) a || dspStatus e) (inOrder statuses a || (inOrder (dspStatus ∷ []) a && avrStatus e))
+    (inOrder acknowledged a || (inOrder statuses a && ack e)) (inOrder (acknowledged ++ piStatus ∷ []) a || (inOrder acknowledged a && piStatus e))
+    (inOrder (acknowledged ++ armed ∷ []) a || (inOrder acknowledged a && armed e)) n
 more cam n a e =
-    rw (snoc [] dspStatus a e, snoc (dspStatus ∷ []) avrStatus a e, snoc asked ack a e, snoc taken piStatus a e, snoc taken armed a e)
+    rw (snoc [] dspStatus a e, snoc (dspStatus ∷ []) avrStatus a e, snoc statuses ack a e, snoc acknowledged piStatus a e, snoc acknowledged armed a e)
 
 moves : (cam : Bool) (n : ℕ) (a : List Envelope) (e : Envelope) → n ≤ 65_535
     → answeredAt (stateOf cam n a .step) (stateOf cam n a) e .seq ≡ cond (counted n a e) (stateOf cam (suc n) []) (stateOf cam n (a ++ e ∷ []))
 moves cam n a e l =
-    at-any cam (inOrder (dspStatus ∷ []) a) (inOrder asked a) (inOrder taken a) (inOrder (taken ++ piStatus ∷ []) a) (inOrder (taken ++ armed ∷ []) a) n e l
+    at-any cam (inOrder (dspStatus ∷ []) a) (inOrder statuses a) (inOrder acknowledged a) (inOrder (acknowledged ++ piStatus ∷ []) a) (inOrder (acknowledged ++ armed ∷ []) a) n e l
     (falls a)
     ∙ ap (λ (s : ArmSequencer). cond (counted n a e) (stateOf cam (suc n) []) s) (sym (more cam n a e))
 
@@ -149,7 +149,7 @@ stateAt cam w = stateOf cam (w .number) (w .since)
 
 -- fewer than 65,535 before a counted one
 counted-few : (n : ℕ) (a : List Envelope) (e : Envelope) → counted n a e ≡ true → suc n ≤ 65_535
-counted-few n a e h = go (inOrder asked a && not (inOrder taken a)) (nack e) h
+counted-few n a e h = go (inOrder statuses a && not (inOrder acknowledged a)) (nack e) h
   where
     go : (x y : Bool) → x && (y && ltb n 65_535) ≡ true → suc n ≤ 65_535
     go true true k = ltb-true n 65_535 k
@@ -221,5 +221,5 @@ right m cs =
     let a = w .since in
     record {
       retries = ap (λ (s : ArmSequencer). s .retries) is;
-      done = rw is (done-by (hasCamera m) (inOrder (dspStatus ∷ []) a) (inOrder asked a) (inOrder taken a) (inOrder (taken ++ piStatus ∷ []) a) (inOrder (taken ++ armed ∷ []) a) (falls a));
+      done = rw is (done-by (hasCamera m) (inOrder (dspStatus ∷ []) a) (inOrder statuses a) (inOrder acknowledged a) (inOrder (acknowledged ++ piStatus ∷ []) a) (inOrder (acknowledged ++ armed ∷ []) a) (falls a));
     }

@@ -29,16 +29,16 @@ inOrder (t ∷ ts) [] = false
 inOrder (t ∷ ts) (e ∷ r) = cond (t e) (inOrder ts r) (inOrder (t ∷ ts) r)
 
 -- the DSP's status and the AVR's; then the acknowledgement
-abbrev pub asked : List (Envelope → Bool)
-asked = dspStatus ∷ avrStatus ∷ []
+abbrev pub statuses : List (Envelope → Bool)
+statuses = dspStatus ∷ avrStatus ∷ []
 
-abbrev pub taken : List (Envelope → Bool)
-taken = dspStatus ∷ avrStatus ∷ ack ∷ []
+abbrev pub acknowledged : List (Envelope → Bool)
+acknowledged = dspStatus ∷ avrStatus ∷ ack ∷ []
 
--- Is e a counted nack, n being counted before it and a being what came since the last of them? It is if the unit was asked, it has not taken
--- it, and fewer than 65,535 are counted.
+-- Is e a counted nack, n being counted before it and a being what came since the last of them? It is if both statuses came, the acknowledgement
+-- did not, and fewer than 65,535 are counted.
 abbrev pub counted : ℕ → List Envelope → Envelope → Bool
-counted n a e = (inOrder asked a && not (inOrder taken a)) && (nack e && ltb n 65_535)
+counted n a e = (inOrder statuses a && not (inOrder acknowledged a)) && (nack e && ltb n 65_535)
 
 -- the number of counted nacks of a run, and what came since the last
 pub record Nacks : Type 0 where
@@ -54,8 +54,8 @@ abbrev pub nacks : List Envelope → Nacks
 nacks r = nacksFrom 0 [] r
 
 -- after the acknowledgement the armed text, and with a camera the Pi's status, in either order
-abbrev pub isArmed : DeviceModel → List Envelope → Bool
-isArmed m a = inOrder (taken ++ armed ∷ []) a && (not (hasCamera m) || inOrder (taken ++ piStatus ∷ []) a)
+abbrev pub armedSince : DeviceModel → List Envelope → Bool
+armedSince m a = inOrder (acknowledged ++ armed ∷ []) a && (not (hasCamera m) || inOrder (acknowledged ++ piStatus ∷ []) a)
 
 module _ (m : DeviceModel) (cs : List Envelope) where
   -- an arm begins as `new_for` leaves it
@@ -64,7 +64,7 @@ module _ (m : DeviceModel) (cs : List Envelope) where
 
   pub record Right : Type 0 where
     pub retries : state .retries ≡ nacks (run cs) .number
-    pub done : (state .step ≡ ArmStep.Done) ↔ (isArmed m (nacks (run cs) .since) ≡ true)
+    pub done : (state .step ≡ ArmStep.Done) ↔ (armedSince m (nacks (run cs) .since) ≡ true)
 
 -- for every model given at new, and every list of feeds
 abbrev pub Theorem : Type 0
