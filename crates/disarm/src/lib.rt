@@ -39,6 +39,12 @@ pub struct DisarmFed {
     pub seq: DisarmSequencer,
 }
 
+// What a call through a reference answers: as `DisarmFed`, but for the state.
+pub struct DisarmAnswer {
+    pub outcome: Outcome,
+    pub action: Action,
+}
+
 impl DisarmSequencer {
     // An accepted feed, after which the step is `step`. Nothing is sent.
     fn at(step: DisarmStep) -> DisarmFed
@@ -143,6 +149,25 @@ impl DisarmSequencer {
         match outcome {
             Outcome::Accepted => self.advance(src, message, text),
             Outcome::Refused(refusal) => self.refuse(refusal),
+        }
+    }
+
+    // The same feed through a reference: the step that `feed` answers is stored.
+    pub fn feed_mut(
+        &mut self,
+        src: BusAddr,
+        type_id: u8,
+        message: Message,
+        text: &[u8],
+        payload: &[u8],
+    ) -> DisarmAnswer
+        ensures { λ r. ⌜ fedTo (held (self .entry)) (record { src = src; type-id = «type_id»; message = message; params = []; text = held (text .entry); payload = held (payload .entry) }) ≡ record { outcome = r .outcome; action = r .action; seq = held (self .exit) } ⌝ }
+    {
+        let fed = (*self).feed(src, type_id, message, text, payload);
+        *self = fed.seq;
+        DisarmAnswer {
+            outcome: fed.outcome,
+            action: fed.action,
         }
     }
 }
