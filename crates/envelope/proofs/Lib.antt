@@ -1,0 +1,5 @@
+pub mod Handed
+pub mod Walks
+pub mod Numbers
+pub mod Unpacked
+pub mod Unread
