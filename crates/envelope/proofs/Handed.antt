@@ -14,8 +14,8 @@ use base.Fml.{Lft, Share, Fml, ftrue, flft}
 use prog.Wp.{Heap, Calls, Loops, WpFn, Tables}
 use ghost.Atoms.{Atoms, sem}
 use contract.Lifetimes.{Lfts}
-use contract.Monad.{fact}
-use types.Kit.{Given, ‵, raw, given, _⊛_, _$_, _∵_, !, qed, move, use0, use1, use2, split, join, learn, suffices, frame, done}
+use contract.Monad.{fact, factI}
+use types.Kit.{Given, Item, ‵, raw, given, _⊛_, ⋆, prop, Seq, Sq, _$_, _∵_, !, qed, move, use0, use1, use2, split, join, learn, suffices, frame, done}
 use sound.WpLaws.{WpFn-mono}
 use denote.RattleType.{RattleType, Denots, Valss, flat, owns}
 use denote.Laws.{Is, Are, Ises, Spells, valss, Tellss, shows}
@@ -25,13 +25,17 @@ use denote.Triple.Statement.{Contract, Triple}
 use denote.Triple.Entry.{Args, Vals, onEntry}
 use denote.Triple.Spec.{Meets, tripleOf}
 use denote.Triple.End.{Fins, all}
-use denote.Triple.Walked.{says, Stays, stay-dropped, fitsOf, hasOf, walkOf, AllGo, goes-dropped, ends-at, walked, walk-meets}
-use denote.Triple.Clauses.{Ended, Clauses, ensured, closing, lasts}
+use denote.Triple.Walked.{Stays, stay-dropped, fitsOf, hasOf, walkOf, AllGo, goes-dropped, ends-at, walked, walk-meets}
+use denote.Triple.Clauses.{Ended, Clauses, ensured, closing, lasts, atExit}
 use denote.Exit.{Exit, Last, left, unchanged, yes}
 
 -- the value has the type
 abbrev pub Typed : Ty → Val → Type 0
 Typed τ v = Holds (hasTy τ v) × WT v
+
+-- a fact that a contract states
+pub stated : {M : Type 1} {𝓤 : URA M} {H : Heap 𝓤} {A : Atoms 𝓤} {K : Type 0} {W : Given 𝓤 H A} {Γ : List (Item 𝓤)} → K → {φ : Type 0} → φ → Seq K W Γ (prop (fact 𝓤 φ))
+stated {𝓤 = 𝓤} {H = H} {A = A} {Γ = Γ} t {φ} x = record { prf = factI 𝓤 φ (⋆ 𝓤 H A Γ) x }
 
 -- ---- nothing is had of a parameter at exit
 silent : {D : Type 0} (e : Exit D) → e ≡ unchanged → (x : D) (f : Last e x) → left e x f ≡ ftrue
@@ -64,16 +68,15 @@ module _ {n : ℕ} where
     all-go [] st = tt
     all-go (s ∷ ss) st = (goes-dropped 𝓤 H A W n s yes (λ κs x f. silent (s .row κs .exit yes) (st .0 κs) x f), all-go ss (st .1))
 
--- ---- the function, whose parameters are at ps, and its callee, whose parameters are at rs. P is what each says of the answer
+-- ---- the function, whose parameters are at ps, and its callee, whose parameters are at rs and whose contract says P of the answer
 module _ (ps : List (Slot 1)) (F : RattleType) where
   abbrev pub outer : Ended
   outer = record { signature = record { lifetimes = 1; outlives = []; params = ps; result = plain (λ _. F) }; kept = all yes ps }
 
-  abbrev pub Outer : Type 1
-  Outer = (κs : Lfts 1) → Args (outer .signature) κs → F .Denot → Type 0
-
-  abbrev pub outer-says : {M : Type 1} (𝓤 : URA M) → Outer → Clauses 𝓤 outer
-  outer-says 𝓤 P κs a = record { ghost = Unit {0}; requires = λ _. emp 𝓤; ensures = λ _ r _. fact 𝓤 (P κs a r) }
+  -- what the contract c says of the answer r
+  module _ {M : Type 1} (𝓤 : URA M) (st : Stills ps) (c : Clauses 𝓤 outer) (κ : Lft) (a : Args (outer .signature) (κ, tt)) where
+    abbrev pub claims : c (κ, tt) a .ghost → F .Denot → SProp 𝓤
+    claims g r = c (κ, tt) a .ensures g r (atExit outer (κ, tt) a (fins ps st (κ, tt) a))
 
 module _ (rs : List (Slot 2)) (F : RattleType) where
   abbrev pub inner : Ended
@@ -90,7 +93,7 @@ abbrev pub Passes : {M : Type 1} (𝓤 : URA M) (H : Heap 𝓤) → Calls 𝓤 H
 Passes 𝓤 H C Λ f τ fn us vs = (Rest : SProp 𝓤) (Q Left Post : Val → SProp 𝓤) → ent 𝓤 Rest (C f us Q) → ((u : Val) → ent 𝓤 (Q u) (H .⇛ (guard 𝓤 (Typed τ u) (Left u)))) → ((u : Val) → ent 𝓤 (Left u) (Post u))
     → ent 𝓤 Rest (WpFn 𝓤 H C Λ fn vs Post)
 
-module _ (ps : List (Slot 1)) (rs : List (Slot 2)) (F : RattleType) (P : Outer ps F) (P′ : Inner rs F) (st : Stills ps) (sp : (κs : Lfts 1) → Spells (typesAt ps κs)) where
+module _ (ps : List (Slot 1)) (rs : List (Slot 2)) (F : RattleType) (P : Inner rs F) (st : Stills ps) (sp : (κs : Lfts 1) → Spells (typesAt ps κs)) where
   -- what is passed, and its machine values
   abbrev Passed : Lft → Type 0
   Passed κ = Args (outer ps F .signature) (κ, tt)
@@ -99,15 +102,15 @@ module _ (ps : List (Slot 1)) (rs : List (Slot 2)) (F : RattleType) (P : Outer p
   vals κ a = valss (typesAt ps (κ, tt)) (sp (κ, tt)) a
 
   module _ (to : (κ : Lft) → Passed κ → Args (inner rs F .signature) (κ, (κ, tt))) (at : (κ : Lft) → Passed κ → Vals (inner rs F .signature) (κ, (κ, tt)))
-      (agrees : (κ : Lft) (a : Passed κ) (r : F .Denot) → P′ (κ, (κ, tt)) (to κ a) r → P (κ, tt) a r)
       {M : Type 1} (𝓤 : URA M) (H : Heap 𝓤) (A : Atoms 𝓤) (W : Given 𝓤 H A) (𝓣 : Tables 𝓤 H) (f : Name) (τ : Ty) (fn : Fn)
       (typed : (r : F .Denot) (u : Val) → Is F r (u ∷ []) → Typed τ u)
-      (apart : (κ : Lft) (a : Passed κ) → ent 𝓤 (sem 𝓤 H A (owns (typesAt ps (κ, tt)) a (vals κ a))) (sem 𝓤 H A (owns (typesAt rs (κ, (κ, tt))) (to κ a) (at κ a)))) where
+      (apart : (κ : Lft) (a : Passed κ) → ent 𝓤 (sem 𝓤 H A (owns (typesAt ps (κ, tt)) a (vals κ a))) (sem 𝓤 H A (owns (typesAt rs (κ, (κ, tt))) (to κ a) (at κ a))))
+      (c : Clauses 𝓤 (outer ps F)) (holds : (κ : Lft) (a : Passed κ) (g : c (κ, tt) a .ghost) (r : F .Denot) → P (κ, (κ, tt)) (to κ a) r → Sq W [] (prop (claims ps F 𝓤 st c κ a g r))) where
     -- the contract that is cited
     abbrev pub Callee : Contract 𝓤
-    Callee = tripleOf 𝓤 H A (inner rs F .signature) (closing 𝓤 H A (inner rs F) (inner-says rs F 𝓤 P′))
+    Callee = tripleOf 𝓤 H A (inner rs F .signature) (closing 𝓤 H A (inner rs F) (inner-says rs F 𝓤 P))
 
-    module _ (known : Triple 𝓤 (𝓣 .C f) Callee) (κ : Lft) (q : Share) (a : Passed κ) where
+    module _ (known : Triple 𝓤 (𝓣 .C f) Callee) (κ : Lft) (q : Share) (a : Passed κ) (g : c (κ, tt) a .ghost) where
       abbrev Entry : SProp 𝓤
       Entry = onEntry 𝓤 H A (outer ps F .signature) (κ, tt) (q, tt) a (vals κ a)
 
@@ -128,37 +131,40 @@ module _ (ps : List (Slot 1)) (rs : List (Slot 2)) (F : RattleType) (P : Outer p
 
       -- what there is once the callee has answered u
       abbrev Answered : Val → F .Denot → SProp 𝓤
-      Answered u r = guard 𝓤 (P (κ, tt) a r) (sep 𝓤 (sep 𝓤 (A .lft κ q) (emp 𝓤)) (sem 𝓤 H A (F .own r (u ∷ []))))
+      Answered u r = guard 𝓤 (P (κ, (κ, tt)) (to κ a) r) (sep 𝓤 (sep 𝓤 (A .lft κ q) (emp 𝓤)) (sem 𝓤 H A (F .own r (u ∷ []))))
 
       abbrev Ensured : F .Denot → SProp 𝓤
-      Ensured r = ensured 𝓤 H A (inner rs F) (inner-says rs F 𝓤 P′) (κ, (κ, tt)) (to κ a) tt r
+      Ensured r = ensured 𝓤 H A (inner rs F) (inner-says rs F 𝓤 P) (κ, (κ, tt)) (to κ a) tt r
 
-      said : (r : F .Denot) → ent 𝓤 (Ensured r) (fact 𝓤 (P′ (κ, (κ, tt)) (to κ a) r))
-      said r = exE 𝓤 _ (λ ws. snd∗ 𝓤 (sem 𝓤 H A (lasts (inner rs F) (κ, (κ, tt)) (to κ a) ws)) (fact 𝓤 (P′ (κ, (κ, tt)) (to κ a) r)))
+      said : (r : F .Denot) → ent 𝓤 (Ensured r) (fact 𝓤 (P (κ, (κ, tt)) (to κ a) r))
+      said r = exE 𝓤 _ (λ ws. snd∗ 𝓤 (sem 𝓤 H A (lasts (inner rs F) (κ, (κ, tt)) (to κ a) ws)) (fact 𝓤 (P (κ, (κ, tt)) (to κ a) r)))
 
       answers : (u : Val) → ent 𝓤 (Callee .post bound u) (H .⇛ (guard 𝓤 (Typed τ u) (ex 𝓤 (Answered u))))
       answers u = W .laws .⇛-mono _ _ (exE 𝓤 _ (λ r.
-          qed W ((((‵ h₀ ⊛ ‵ h₁ ⊛ ‵ ftrue) ⊛ ‵ (F .own r (u ∷ []))) ⊛ raw (Ensured r)) ∷ []) ∵ split ! $ move ! (1 ∷ []) $ use1 W (raw (fact 𝓤 (P′ (κ, (κ, tt)) (to κ a) r))) (said r) $
-          heard ! (P′ (κ, (κ, tt)) (to κ a) r) (λ e. split ! $ move ! (1 ∷ []) $ peeks ! F (Is F) (shows 𝓤 H A F) r (u ∷ []) (λ is.
+          qed W ((((‵ h₀ ⊛ ‵ h₁ ⊛ ‵ ftrue) ⊛ ‵ (F .own r (u ∷ []))) ⊛ raw (Ensured r)) ∷ []) ∵ split ! $ move ! (1 ∷ []) $ use1 W (raw (fact 𝓤 (P (κ, (κ, tt)) (to κ a) r))) (said r) $
+          heard ! (P (κ, (κ, tt)) (to κ a) r) (λ e. split ! $ move ! (1 ∷ []) $ peeks ! F (Is F) (shows 𝓤 H A F) r (u ∷ []) (λ is.
           move ! (1 ∷ []) $ split ! $ move ! (1 ∷ []) $ split ! $ move ! (2 ∷ 0 ∷ []) $ use2 W (‵ (flft κ q)) (W .lfts .lft-join κ q) $ join ! $
           -- [the token; the answer]
           suffices ! (ex 𝓤 (Answered u)) (guardI 𝓤 (Typed τ u) (ex 𝓤 (Answered u)) (typed r u is)) $ suffices ! (Answered u r) (exI 𝓤 (Answered u) r) $
-          suffices ! (sep 𝓤 (sep 𝓤 (A .lft κ q) (emp 𝓤)) (sem 𝓤 H A (F .own r (u ∷ [])))) (guardI 𝓤 (P (κ, tt) a r) _ (agrees κ a r e)) $ frame ! $ done !))))
+          suffices ! (sep 𝓤 (sep 𝓤 (A .lft κ q) (emp 𝓤)) (sem 𝓤 H A (F .own r (u ∷ [])))) (guardI 𝓤 (P (κ, (κ, tt)) (to κ a) r) _ e) $ frame ! $ done !))))
 
       abbrev Post : Val → SProp 𝓤
-      Post = walkOf 𝓤 H A (outer ps F) (dropped ps) (outer-says ps F 𝓤 P) .post (((κ, tt), (q, tt), tt, a, vals κ a), tt)
+      Post = walkOf 𝓤 H A (outer ps F) (dropped ps) c .post (((κ, tt), (q, tt), tt, a, vals κ a), g)
+
+      abbrev had : Fml
+      had = hasOf (κ, tt) ps (all yes ps) (dropped ps) a (fins ps st (κ, tt) a) (vals κ a)
 
       ends : (u : Val) → ent 𝓤 (ex 𝓤 (Answered u)) (Post u)
-      ends u = exE 𝓤 _ (λ r. qed W (given (P (κ, tt) a r) ((‵ (flft κ q) ⊛ ‵ ftrue) ⊛ ‵ (F .own r (u ∷ []))) ∷ []) ∵ learn ! (λ p. split ! $
-          suffices ! _ (ends-at 𝓤 H A (outer ps F) (dropped ps) (outer-says ps F 𝓤 P) W (((κ, tt), (q, tt), tt, a, vals κ a), tt) u r (fins ps st (κ, tt) a) (fit ps (κ, tt) a (fins ps st (κ, tt) a))) $ says ! p $ frame ! $
-          use0 W (‵ (hasOf (κ, tt) ps (all yes ps) (dropped ps) a (fins ps st (κ, tt) a) (vals κ a))) (none-had 𝓤 H A W ps (κ, tt) a (fins ps st (κ, tt) a) (vals κ a)) $ frame ! $ done !))
+      ends u = exE 𝓤 _ (λ r. qed W (given (P (κ, (κ, tt)) (to κ a) r) ((‵ (flft κ q) ⊛ ‵ ftrue) ⊛ ‵ (F .own r (u ∷ []))) ∷ []) ∵ learn ! (λ p. split ! $
+          suffices ! _ (ends-at 𝓤 H A (outer ps F) (dropped ps) c W (((κ, tt), (q, tt), tt, a, vals κ a), g) u r (fins ps st (κ, tt) a) (fit ps (κ, tt) a (fins ps st (κ, tt) a))) $
+          use0 W (‵ had) (none-had 𝓤 H A W ps (κ, tt) a (fins ps st (κ, tt) a) (vals κ a)) $ move ! (0 ∷ 2 ∷ []) $ join ! $ move ! (1 ∷ 0 ∷ []) $ join ! $ frame ! $ holds κ a g r p))
 
       pub passes : Passes 𝓤 H (𝓣 .C) (𝓣 .Λ) f τ fn (flat (typesAt rs (κ, (κ, tt))) (at κ a)) (flat (typesAt ps (κ, tt)) (vals κ a)) → ent 𝓤 Entry (WpFn 𝓤 H (𝓣 .C) (𝓣 .Λ) fn (flat (typesAt ps (κ, tt)) (vals κ a)) Post)
       passes walk = walk Entry (Callee .post bound) (λ u. ex 𝓤 (Answered u)) Post (via 𝓤 (Callee .pre bound) asked (known bound)) answers ends
 
     pub meets : Triple 𝓤 (𝓣 .C f) Callee → ((κs : Lfts 1) → Tellss (typesAt ps κs) (Ises (typesAt ps κs)) (sp κs))
         → ((κ : Lft) (a : Passed κ) → Are (typesAt ps (κ, tt)) (Ises (typesAt ps (κ, tt))) a (vals κ a) → Passes 𝓤 H (𝓣 .C) (𝓣 .Λ) f τ fn (flat (typesAt rs (κ, (κ, tt))) (at κ a)) (flat (typesAt ps (κ, tt)) (vals κ a)))
-        → Meets 𝓤 H A (outer ps F .signature) (WpFn 𝓤 H (𝓣 .C) (𝓣 .Λ) fn) (closing 𝓤 H A (outer ps F) (outer-says ps F 𝓤 P))
+        → Meets 𝓤 H A (outer ps F .signature) (WpFn 𝓤 H (𝓣 .C) (𝓣 .Λ) fn) (closing 𝓤 H A (outer ps F) c)
     meets known tl walk =
-        walk-meets 𝓤 H A (outer ps F) (dropped ps) W (all-go 𝓤 H A W ps st) (outer-says ps F 𝓤 P) (WpFn 𝓤 H (𝓣 .C) (𝓣 .Λ) fn) (WpFn-mono 𝓤 H (W .laws) 𝓣 fn)
-        (walked 𝓤 H A (outer ps F) (dropped ps) (outer-says ps F 𝓤 P) (WpFn 𝓤 H (𝓣 .C) (𝓣 .Λ) fn) sp tl (λ κs qs bounds a g are. via 𝓤 _ (fst∗ 𝓤 _ (emp 𝓤)) (passes known (κs .0) (qs .0) a (walk (κs .0) a are))))
+        walk-meets 𝓤 H A (outer ps F) (dropped ps) W (all-go 𝓤 H A W ps st) c (WpFn 𝓤 H (𝓣 .C) (𝓣 .Λ) fn) (WpFn-mono 𝓤 H (W .laws) 𝓣 fn)
+        (walked 𝓤 H A (outer ps F) (dropped ps) c (WpFn 𝓤 H (𝓣 .C) (𝓣 .Λ) fn) sp tl (λ κs qs bounds a g are. via 𝓤 _ (fst∗ 𝓤 _ (c κs a .requires g)) (passes known (κs .0) (qs .0) a g (walk (κs .0) a are))))

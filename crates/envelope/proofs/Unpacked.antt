@@ -15,7 +15,7 @@ use base.Fml.{Lft, Fml}
 use prog.Wp.{Heap, WpFn, Tables}
 use ghost.Atoms.{Atoms, sem}
 use contract.Lifetimes.{Lfts}
-use types.Kit.{Given, ‵, given, _$_, _∵_, !, qed, move, keep, drop, use1, learn, rewrite, fsplit, fjoin, done}
+use types.Kit.{Given, ‵, given, prop, Sq, _$_, _∵_, !, qed, move, keep, drop, use1, learn, rewrite, fsplit, fjoin, done}
 use denote.RattleType.{RattleType, flat, owns}
 use denote.Laws.{Is, Are, Ises, Spells, valss, Tellss}
 use denote.Memory.{lone}
@@ -33,18 +33,17 @@ use denote.Struct.Values.{Values}
 use denote.Triple.Entry.{Args, Vals}
 use denote.Triple.Statement.{Contract, Triple}
 use denote.Triple.Spec.{Meets, tripleOf}
-use denote.Triple.Clauses.{closing}
+use denote.Triple.Clauses.{Clauses, closing}
 use denote.Exit.{Kept, unchanged, yes}
 use Rattle.protocol.proofs.addr.BusAddr as B
 use Rattle.protocol.proofs.addr.BusAddr.Laws as B′
 use Rattle.protocol.proofs.Message as G
 use Rattle.protocol.proofs.Message.Laws as G′
 use Rattle.sequence.specs.Events as events
-use Rattle.envelope.specs.Lent.{lent}
 use Rattle.envelope.specs.declared.Envelope.{Envelope}
 use Rattle.envelope.proofs.Envelope as E
 use Rattle.envelope.proofs.Envelope.Laws as E′
-use Rattle.envelope.proofs.Handed.{Outer, Inner, Passes, outer, inner, outer-says, inner-says, meets}
+use Rattle.envelope.proofs.Handed.{Inner, Stills, Passes, outer, inner, inner-says, claims, meets}
 use Rattle.envelope.proofs.Numbers.{Numbers, slots, stills, spells, tells, read, put, read-put, owned, handed}
 use Rattle.envelope.proofs.Walks as walks
 
@@ -83,7 +82,7 @@ slice-val x = sliceVal (ptr x) (length (now x))
 
 -- what the sequencer's feed is told of it: with the numbers, or without
 abbrev pub told : Bool → Envelope → events.Envelope
-told true e = lent e
+told true e = record { src = e .src; type-id = e .«type_id»; message = e .message; params = e .params; text = now (e .text); payload = now (e .payload) }
 told false e = record { src = e .src; type-id = e .«type_id»; message = e .message; params = []; text = now (e .text); payload = now (e .payload) }
 
 -- ---- the sequencer and its laws, the answer and its, and the count of clock readings
@@ -108,6 +107,9 @@ module _ (TS TF : Declared) (LS : LL.Laws TS) (LF : LL.Laws TF) (still : (k : Ke
 
   abbrev ps : List (Slot 1)
   ps = plain (λ _. row TS) ∷ Env ∷ slots 1 n
+
+  abbrev st : Stills ps
+  st = ((λ κs. still yes), ((λ κs. refl), stills 1 n))
 
   abbrev after : List (Slot 2)
   after = shrSliceOf (0 ∷ []) tt (plain (λ _. u8)) ∷ shrSliceOf (1 ∷ []) tt (plain (λ _. u8)) ∷ slots 2 n
@@ -167,50 +169,55 @@ module _ (TS TF : Declared) (LS : LL.Laws TS) (LF : LL.Laws TF) (still : (k : Ke
           (qed W (‵ (owns (typesAt (rs true) (κ, (κ, tt))) (to true) (at true)) ∷ []) ∵ fsplit ! $ move ! (1 ∷ []) $ fsplit ! $ move ! (1 ∷ []) $ fsplit ! $ move ! (1 ∷ []) $ fsplit ! $ move ! (1 ∷ []) $ fsplit ! $ drop ! $
           move ! (1 ∷ 0 ∷ []) $ fjoin ! $ move ! (1 ∷ 0 ∷ []) $ fjoin ! $ move ! (1 ∷ 0 ∷ []) $ fjoin ! $ move ! (1 ∷ 0 ∷ []) $ fjoin ! $ done !)
 
-  -- the answer that the sequencer's contract says
+  -- the answer that the contract of the sequencer's feed says
   module _ (g : TS .D → events.Envelope → Numbers n → TF .D) where
-    abbrev says : Outer ps (row TF)
-    says κs a r = r ≡ g (a .0) (lent (a .1 .0)) (read 1 κs n (a .1 .1))
-
     abbrev hears : (b : Bool) → Inner (rs b) (row TF)
     hears true κs a r =
         r ≡ g (a .0) (record { src = a .1 .0; type-id = a .1 .1 .0; message = a .1 .1 .1 .0; params = a .1 .1 .1 .1 .0; text = now (a .1 .1 .1 .1 .1 .0); payload = now (a .1 .1 .1 .1 .1 .1 .0) }) (read 2 κs n (a .1 .1 .1 .1 .1 .1 .1))
     hears false κs a r = r ≡ g (a .0) (record { src = a .1 .0; type-id = a .1 .1 .0; message = a .1 .1 .1 .0; params = []; text = now (a .1 .1 .1 .1 .0); payload = now (a .1 .1 .1 .1 .1 .0) }) (read 2 κs n (a .1 .1 .1 .1 .1 .1))
 
-    agrees : (b : Bool) → ((s : TS .D) (e : Envelope) (x : Numbers n) → g s (told b e) x ≡ g s (lent e) x) → (κ : Lft) (a : Args (outer ps (row TF) .signature) (κ, tt)) (r : TF .D) → hears b (κ, (κ, tt)) (to κ a b) r → says (κ, tt) a r
-    agrees true law κ a r h = h ∙ ap (g (a .0) (told true (a .1 .0))) (read-put 2 (κ, (κ, tt)) n (more κ a)) ∙ law (a .0) (a .1 .0) (more κ a)
-    agrees false law κ a r h = h ∙ ap (g (a .0) (told false (a .1 .0))) (read-put 2 (κ, (κ, tt)) n (more κ a)) ∙ law (a .0) (a .1 .0) (more κ a)
+    abbrev answer : Bool → (κ : Lft) → Args (outer ps (row TF) .signature) (κ, tt) → TF .D
+    answer b κ a = g (a .0) (told b (a .1 .0)) (more κ a)
+
+    told-all : (b : Bool) (κ : Lft) (a : Args (outer ps (row TF) .signature) (κ, tt)) (r : TF .D) → hears b (κ, (κ, tt)) (to κ a b) r → r ≡ answer b κ a
+    told-all true κ a r h = h ∙ ap (g (a .0) (told true (a .1 .0))) (read-put 2 (κ, (κ, tt)) n (more κ a))
+    told-all false κ a r h = h ∙ ap (g (a .0) (told false (a .1 .0))) (read-put 2 (κ, (κ, tt)) n (more κ a))
 
     module _ {M : Type 1} (𝓤 : URA M) (H : Heap 𝓤) (A : Atoms 𝓤) (b : Bool) where
-      -- the contract that is cited, and the one that is met
+      -- the contract that is cited; that the function's own contract follows from it; and that it is met
       abbrev pub Fed : Contract 𝓤
       Fed = tripleOf 𝓤 H A (inner (rs b) (row TF) .signature) (closing 𝓤 H A (inner (rs b) (row TF)) (inner-says (rs b) (row TF) 𝓤 (hears b)))
 
-      abbrev pub Met : Tables 𝓤 H → Fn → Type 1
-      Met 𝓣 fn = Meets 𝓤 H A (outer ps (row TF) .signature) (WpFn 𝓤 H (𝓣 .C) (𝓣 .Λ) fn) (closing 𝓤 H A (outer ps (row TF)) (outer-says ps (row TF) 𝓤 says))
+      abbrev pub Follows : Given 𝓤 H A → Clauses 𝓤 (outer ps (row TF)) → Type 1
+      Follows W c = (κ : Lft) (a : Args (outer ps (row TF) .signature) (κ, tt)) (x : c (κ, tt) a .ghost) (r : TF .D) → r ≡ answer b κ a → Sq W [] (prop (claims ps (row TF) 𝓤 st c κ a x r))
 
-      pub unpacked : (W : Given 𝓤 H A) (𝓣 : Tables 𝓤 H) (f : Name) (fn : Fn) → ((s : TS .D) (e : Envelope) (x : Numbers n) → g s (told b e) x ≡ g s (lent e) x) → Triple 𝓤 (𝓣 .C f) Fed
-          → ((κ : Lft) (a : Args (outer ps (row TF) .signature) (κ, tt)) → Are (typesAt ps (κ, tt)) (Ises (typesAt ps (κ, tt))) a (valss (typesAt ps (κ, tt)) (sp (κ, tt)) a) → walks.Known f tys (values (a .0) (a .1 .0)) → Passes 𝓤 H (𝓣 .C) (𝓣 .Λ) f (tys .τ) fn (flat (typesAt (rs b) (κ, (κ, tt))) (at κ a b)) (flat (typesAt ps (κ, tt)) (valss (typesAt ps (κ, tt)) (sp (κ, tt)) a)))
-          → Met 𝓣 fn
-      unpacked W 𝓣 f fn law known walk =
-          meets ps (rs b) (row TF) says (hears b) ((λ κs. still yes), ((λ κs. refl), stills 1 n)) sp (λ κ a. to κ a b) (λ κ a. at κ a b) (agrees b law) 𝓤 H A W 𝓣 f (tys .τ) fn
-          (λ r u is. LL.lawful TF LF 𝓤 H A W .typed r _ is .0) (λ κ a. apart κ a 𝓤 H A W b) known
+      abbrev pub Met : Clauses 𝓤 (outer ps (row TF)) → Tables 𝓤 H → Fn → Type 1
+      Met c 𝓣 fn = Meets 𝓤 H A (outer ps (row TF) .signature) (WpFn 𝓤 H (𝓣 .C) (𝓣 .Λ) fn) (closing 𝓤 H A (outer ps (row TF)) c)
+
+      pub unpacked : (W : Given 𝓤 H A) (𝓣 : Tables 𝓤 H) (f : Name) (fn : Fn) (c : Clauses 𝓤 (outer ps (row TF))) → Follows W c → Triple 𝓤 (𝓣 .C f) Fed
+          → ((κ : Lft) (a : Args (outer ps (row TF) .signature) (κ, tt)) → Are (typesAt ps (κ, tt)) (Ises (typesAt ps (κ, tt))) a (valss (typesAt ps (κ, tt)) (sp (κ, tt)) a) → walks.Known f tys (values (a .0) (a .1 .0))
+          → Passes 𝓤 H (𝓣 .C) (𝓣 .Λ) f (tys .τ) fn (flat (typesAt (rs b) (κ, (κ, tt))) (at κ a b)) (flat (typesAt ps (κ, tt)) (valss (typesAt ps (κ, tt)) (sp (κ, tt)) a)))
+          → Met c 𝓣 fn
+      unpacked W 𝓣 f fn c follows known walk =
+          meets ps (rs b) (row TF) (hears b) st sp (λ κ a. to κ a b) (λ κ a. at κ a b) 𝓤 H A W 𝓣 f (tys .τ) fn
+          (λ r u is. LL.lawful TF LF 𝓤 H A W .typed r _ is .0) (λ κ a. apart κ a 𝓤 H A W b) c (λ κ a x r h. follows κ a x r (told-all b κ a r h)) known
           (λ κs. (LL.tells TS LS, (LL.tells (E.the-type (namedLft 1 0 tt κs)) (E′.the-laws (namedLft 1 0 tt κs)), tells 1 κs n)))
           (λ κ a are. let t = LL.lawful (E.the-type (lft κ)) (E′.the-laws (lft κ)) 𝓤 H A W .typed (a .1 .0) _ (are .1 .0) .0 in
           walk κ a are (record { t₁ = LL.lawful TS LS 𝓤 H A W .typed (a .0) _ (are .0) .0; t₂ = t; t₈ = (tt, t .1 .1 .1 .1 .1 .0); t₉ = (tt, t .1 .1 .1 .1 .1 .1 .0) }))
 
 -- ---- the three kinds: without the numbers, with them and one reading, with them and two
 module _ (TS TF : Declared) (LS : LL.Laws TS) (LF : LL.Laws TF) (still : (k : Kept) → row TS .exit k ≡ unchanged) {M : Type 1} (𝓤 : URA M) (H : Heap 𝓤) (A : Atoms 𝓤) (W : Given 𝓤 H A) (𝓣 : Tables 𝓤 H) (f : Name) where
-  pub plain-meets : (g : TS .D → events.Envelope → TF .D) → ((s : TS .D) (e : Envelope) → g s (told false e) ≡ g s (lent e)) → Triple 𝓤 (𝓣 .C f) (Fed TS TF LS LF still 0 (λ s e x. g s e) 𝓤 H A false)
-      → Met TS TF LS LF still 0 (λ s e x. g s e) 𝓤 H A false 𝓣 (walks.plain f (tys TS TF LS LF still 0))
-  plain-meets g law known = unpacked TS TF LS LF still 0 (λ s e x. g s e) 𝓤 H A false W 𝓣 f (walks.plain f (tys TS TF LS LF still 0)) (λ s e x. law s e) known
-      (λ κ a are k. walks.plain-walk f (tys TS TF LS LF still 0) (values TS TF LS LF still 0 (a .0) (a .1 .0)) 𝓤 H A W 𝓣 k)
+  module _ (g : TS .D → events.Envelope → Numbers 0 → TF .D) (c : Clauses 𝓤 (outer (ps TS TF LS LF still 0) (row TF))) where
+    pub plain-meets : Follows TS TF LS LF still 0 g 𝓤 H A false W c → Triple 𝓤 (𝓣 .C f) (Fed TS TF LS LF still 0 g 𝓤 H A false) → Met TS TF LS LF still 0 g 𝓤 H A false c 𝓣 (walks.plain f (tys TS TF LS LF still 0))
+    plain-meets follows known = unpacked TS TF LS LF still 0 g 𝓤 H A false W 𝓣 f (walks.plain f (tys TS TF LS LF still 0)) c follows known
+        (λ κ a are k. walks.plain-walk f (tys TS TF LS LF still 0) (values TS TF LS LF still 0 (a .0) (a .1 .0)) 𝓤 H A W 𝓣 k)
 
-  pub timed-meets : (g : TS .D → events.Envelope → ℕ → TF .D) → Triple 𝓤 (𝓣 .C f) (Fed TS TF LS LF still 1 (λ s e x. g s e (x .0)) 𝓤 H A true) → Met TS TF LS LF still 1 (λ s e x. g s e (x .0)) 𝓤 H A true 𝓣 (walks.timed f (tys TS TF LS LF still 1))
-  timed-meets g known = unpacked TS TF LS LF still 1 (λ s e x. g s e (x .0)) 𝓤 H A true W 𝓣 f (walks.timed f (tys TS TF LS LF still 1)) (λ s e x. refl) known
-      (λ κ a are k. walks.timed-walk f (tys TS TF LS LF still 1) (values TS TF LS LF still 1 (a .0) (a .1 .0)) 𝓤 H A W 𝓣 k (vint w64 (a .1 .1 .0)) (tt, record { fits = are .1 .1 .0 .1 }))
+  module _ (g : TS .D → events.Envelope → Numbers 1 → TF .D) (c : Clauses 𝓤 (outer (ps TS TF LS LF still 1) (row TF))) where
+    pub timed-meets : Follows TS TF LS LF still 1 g 𝓤 H A true W c → Triple 𝓤 (𝓣 .C f) (Fed TS TF LS LF still 1 g 𝓤 H A true) → Met TS TF LS LF still 1 g 𝓤 H A true c 𝓣 (walks.timed f (tys TS TF LS LF still 1))
+    timed-meets follows known = unpacked TS TF LS LF still 1 g 𝓤 H A true W 𝓣 f (walks.timed f (tys TS TF LS LF still 1)) c follows known
+        (λ κ a are k. walks.timed-walk f (tys TS TF LS LF still 1) (values TS TF LS LF still 1 (a .0) (a .1 .0)) 𝓤 H A W 𝓣 k (vint w64 (a .1 .1 .0)) (tt, record { fits = are .1 .1 .0 .1 }))
 
-  pub dated-meets : (g : TS .D → events.Envelope → ℕ → ℕ → TF .D) → Triple 𝓤 (𝓣 .C f) (Fed TS TF LS LF still 2 (λ s e x. g s e (x .0) (x .1 .0)) 𝓤 H A true)
-      → Met TS TF LS LF still 2 (λ s e x. g s e (x .0) (x .1 .0)) 𝓤 H A true 𝓣 (walks.dated f (tys TS TF LS LF still 2))
-  dated-meets g known = unpacked TS TF LS LF still 2 (λ s e x. g s e (x .0) (x .1 .0)) 𝓤 H A true W 𝓣 f (walks.dated f (tys TS TF LS LF still 2)) (λ s e x. refl) known
-      (λ κ a are k. walks.dated-walk f (tys TS TF LS LF still 2) (values TS TF LS LF still 2 (a .0) (a .1 .0)) 𝓤 H A W 𝓣 k (vint w64 (a .1 .1 .0)) (vint w64 (a .1 .1 .1 .0)) (tt, record { fits = are .1 .1 .0 .1 }) (tt, record { fits = are .1 .1 .1 .0 .1 }))
+  module _ (g : TS .D → events.Envelope → Numbers 2 → TF .D) (c : Clauses 𝓤 (outer (ps TS TF LS LF still 2) (row TF))) where
+    pub dated-meets : Follows TS TF LS LF still 2 g 𝓤 H A true W c → Triple 𝓤 (𝓣 .C f) (Fed TS TF LS LF still 2 g 𝓤 H A true) → Met TS TF LS LF still 2 g 𝓤 H A true c 𝓣 (walks.dated f (tys TS TF LS LF still 2))
+    dated-meets follows known = unpacked TS TF LS LF still 2 g 𝓤 H A true W 𝓣 f (walks.dated f (tys TS TF LS LF still 2)) c follows known
+        (λ κ a are k. walks.dated-walk f (tys TS TF LS LF still 2) (values TS TF LS LF still 2 (a .0) (a .1 .0)) 𝓤 H A W 𝓣 k (vint w64 (a .1 .1 .0)) (vint w64 (a .1 .1 .1 .0)) (tt, record { fits = are .1 .1 .0 .1 }) (tt, record { fits = are .1 .1 .1 .0 .1 }))
