@@ -19,7 +19,7 @@ use types.Kit.{Given, Item, ‵, raw, given, _⊛_, ⋆, prop, Seq, Sq, _$_, _�
 use sound.WpLaws.{WpFn-mono}
 use denote.RattleType.{RattleType, Denots, Valss, flat, owns}
 use denote.Laws.{Is, Are, Ises, Spells, valss, Tellss, shows}
-use denote.Signature.{Slot, Signature, plain, typesAt}
+use denote.Signature.{Slot, plain, typesAt}
 use denote.Steps.{peeks, heard}
 use denote.Triple.Statement.{Contract, Triple}
 use denote.Triple.Entry.{Args, Vals, onEntry}

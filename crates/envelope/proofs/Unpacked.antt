@@ -17,7 +17,7 @@ use ghost.Atoms.{Atoms, sem}
 use contract.Lifetimes.{Lfts}
 use types.Kit.{Given, ‵, given, prop, Sq, _$_, _∵_, !, qed, move, keep, drop, use1, learn, rewrite, fsplit, fjoin, done}
 use denote.RattleType.{RattleType, flat, owns}
-use denote.Laws.{Is, Are, Ises, Spells, valss, Tellss}
+use denote.Laws.{Are, Ises, Spells, valss}
 use denote.Memory.{lone}
 use denote.Plain.{uint-vals}
 use denote.Builtin.{u8, i16}

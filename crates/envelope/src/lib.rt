@@ -32,31 +32,31 @@ pub struct Envelope<'a> {
     pub payload: &'a [u8],
 }
 
-pub fn disarm<'a>(seq: DisarmSequencer, env: Envelope<'a>) -> DisarmFed
+pub fn disarm(seq: DisarmSequencer, env: Envelope) -> DisarmFed
     ensures { λ r. ⌜ r ≡ disarms.fedTo seq (lent (env .entry)) ⌝ }
 {
     seq.feed(env.src, env.type_id, env.message, env.text, env.payload)
 }
 
-pub fn arm<'a>(seq: ArmSequencer, env: Envelope<'a>) -> ArmFed
+pub fn arm(seq: ArmSequencer, env: Envelope) -> ArmFed
     ensures { λ r. ⌜ r ≡ arms.fedTo seq (lent (env .entry)) ⌝ }
 {
     seq.feed(env.src, env.type_id, env.message, env.text, env.payload)
 }
 
-pub fn avr_config<'a>(seq: AvrConfigSequencer, env: Envelope<'a>) -> AvrConfigFed
+pub fn avr_config(seq: AvrConfigSequencer, env: Envelope) -> AvrConfigFed
     ensures { λ r. ⌜ r ≡ configs.fedTo seq (lent (env .entry)) ⌝ }
 {
     seq.feed(env.src, env.type_id, env.message, env.text, env.payload)
 }
 
-pub fn pi<'a>(seq: PiSequencer, env: Envelope<'a>) -> PiFed
+pub fn pi(seq: PiSequencer, env: Envelope) -> PiFed
     ensures { λ r. ⌜ r ≡ pis.fedTo seq (lent (env .entry)) ⌝ }
 {
     seq.feed(env.src, env.type_id, env.message, env.text, env.payload)
 }
 
-pub fn dsp<'a>(seq: DspSequencer, env: Envelope<'a>, now: u64) -> DspFed
+pub fn dsp(seq: DspSequencer, env: Envelope, now: u64) -> DspFed
     ensures { λ r. ⌜ r ≡ dsps.fedTo seq (lent (env .entry)) now ⌝ }
 {
     seq.feed(
@@ -70,7 +70,7 @@ pub fn dsp<'a>(seq: DspSequencer, env: Envelope<'a>, now: u64) -> DspFed
     )
 }
 
-pub fn avr<'a>(seq: AvrSequencer, env: Envelope<'a>, now: u64, wall: u64) -> AvrFed
+pub fn avr(seq: AvrSequencer, env: Envelope, now: u64, wall: u64) -> AvrFed
     ensures { λ r. ⌜ r ≡ avrs.fedTo seq (record { envelope = lent (env .entry); wall = wall }) now ⌝ }
 {
     seq.feed(
