@@ -63,13 +63,13 @@ use Rattle.disarm.proofs.DisarmSequencer.feed_mut as feed-mut
 use Rattle.disarm.proofs.DisarmSequencer.feed_mut.Statement as stated
 use Rattle.disarm.proofs.DisarmSequencer.feed_mut.Code as code
 
--- of the parameters only the reference is had at exit
 abbrev texts : Slot 3
 texts = shrSliceOf (1 ∷ []) tt (plain (λ _. u8))
 
 abbrev payloads : Slot 3
 payloads = shrSliceOf (2 ∷ []) tt (plain (λ _. u8))
 
+-- of the parameters only the reference is had at exit
 abbrev stayed : Stays (feed-mut.ended .signature .params) (feed-mut.ended .kept)
 stayed = (stay-ref (0 ∷ []) tt (plain (λ _. S.the-row)), (stay-dropped (plain (λ _. B.the-row)) yes, (stay-dropped (plain (λ _. u8)) yes, (stay-dropped (plain (λ _. G.the-row)) yes, (stay-dropped texts yes, (stay-dropped payloads yes, tt))))))
 
