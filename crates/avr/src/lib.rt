@@ -42,6 +42,7 @@ pub struct AvrSequencer {
     pub last: u64,
 }
 
+#[repr(C)]
 pub struct AvrSync {
     pub status: AvrStatus,
     pub dev_info: DevInfoResp,

@@ -62,27 +62,32 @@ pub enum AvrStep {
     Done,
 }
 
+#[repr(C)]
 pub struct OptionAvrStatus {
     pub some: bool,
     pub value: AvrStatus,
 }
 
+#[repr(C)]
 pub struct OptionCalDataResp {
     pub some: bool,
     pub value: CalDataResp,
 }
 
+#[repr(C)]
 pub struct OptionCalParamResp {
     pub some: bool,
     pub value: CalParamResp,
 }
 
+#[repr(C)]
 pub struct OptionAvrConfigResp {
     pub some: bool,
     pub value: AvrConfigResp,
 }
 
 // The stored replies.
+#[repr(C)]
 pub struct AvrReplies {
     pub status: OptionAvrStatus,
     pub dev_info: OptionDevInfoResp,

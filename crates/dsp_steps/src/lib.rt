@@ -70,6 +70,7 @@ pub struct OptionDspStatus {
     pub payload: Stored,
 }
 
+#[repr(C)]
 pub struct OptionDspQueryResp {
     pub some: bool,
     pub value: DspQueryResp,

@@ -43,11 +43,13 @@ pub enum PiStep {
     Done,
 }
 
+#[repr(C)]
 pub struct OptionCamConfig {
     pub some: bool,
     pub value: CamConfig,
 }
 
+#[repr(C)]
 pub struct PiReplies {
     pub dev_info: OptionDevInfoResp,
     pub cam_config: OptionCamConfig,
@@ -60,6 +62,7 @@ pub struct PiSequencer {
     pub replies: PiReplies,
 }
 
+#[repr(C)]
 pub struct PiSync {
     pub dev_info: DevInfoResp,
     pub cam_config: CamConfig,

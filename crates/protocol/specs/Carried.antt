@@ -7,6 +7,7 @@ use Rattle.protocol.specs.declared.addr.BusAddr.{BusAddr}
 use Rattle.protocol.specs.declared.camera.CamConfig.{CamConfig}
 use Rattle.protocol.specs.declared.status.ConfigAck.{ConfigAck}
 use Rattle.protocol.specs.declared.status.OptionNack.{OptionNack}
+use Rattle.protocol.specs.declared.status.DspStatus80.{DspStatus80}
 use Rattle.protocol.specs.declared.status.DspStatus.{DspStatus}
 use Rattle.protocol.specs.declared.status.AvrStatus.{AvrStatus}
 use Rattle.protocol.specs.declared.handshake.DspQueryResp.{DspQueryResp}
@@ -23,8 +24,8 @@ noNack = record { some = false; src = BusAddr.App; «type_id» = 0; nack = noAck
 abbrev pub noQueryResp : DspQueryResp
 noQueryResp = record { version = 0; «dsp_type» = 0; pcb = 0 }
 
-abbrev pub noDspStatus : DspStatus
-noDspStatus = DspStatus.V80 (record {
+abbrev pub noDspStatus80 : DspStatus80
+noDspStatus80 = record {
   state = 0;
   «input_voltage_usb» = ℤ.pos 0;
   «system_voltage» = ℤ.pos 0;
@@ -34,7 +35,10 @@ noDspStatus = DspStatus.V80 (record {
   «battery_voltage_2» = ℤ.pos 0;
   «power_level» = ℤ.pos 0;
   «external_power» = false;
-})
+}
+
+abbrev pub noDspStatus : DspStatus
+noDspStatus = DspStatus.V80 noDspStatus80
 
 abbrev pub noAvrStatus : AvrStatus
 noAvrStatus = record {

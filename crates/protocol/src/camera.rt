@@ -2,6 +2,7 @@
 ghost use mathlib.Core.Path.{_≡_};
 ghost use Rattle.protocol.specs.Carried.{noCamConfig};
 
+#[repr(C)]
 pub struct CamConfig {
     pub dynamic_config: bool,
     pub resolution_width: i16,

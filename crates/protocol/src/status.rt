@@ -4,10 +4,12 @@ ghost use Rattle.protocol.specs.Ack.{ackOf};
 ghost use Rattle.protocol.specs.Carried.{noNack};
 use crate::addr::BusAddr;
 
+#[repr(C)]
 pub struct StatusPoll {
     pub pi_mode: bool,
 }
 
+#[repr(C)]
 pub struct AvrStatus {
     pub version: u8,
     // 0 idle, 1 armed, 2 arming, 3 tracking
@@ -21,6 +23,7 @@ pub struct AvrStatus {
 }
 
 // The Mevo+'s layout (version 0x80).
+#[repr(C)]
 pub struct DspStatus80 {
     pub state: u8,
     pub input_voltage_usb: i16,
@@ -34,6 +37,7 @@ pub struct DspStatus80 {
 }
 
 // The Gen2's layout (version 0x46). Its payload stands beside.
+#[repr(C)]
 pub struct DspStatus46 {
     pub state: u8,
     pub version: u8,
@@ -44,6 +48,7 @@ pub enum DspStatus {
     V46(DspStatus46),
 }
 
+#[repr(C)]
 pub struct ConfigAck {
     // the side that acknowledges: a bus address
     pub bus_addr: u8,

@@ -4,6 +4,7 @@ ghost use mathlib.Core.List.{[]};
 ghost use Rattle.protocol.specs.Stored.{stored};
 
 // The first `len` of `bytes`; the bytes after them are 0.
+#[repr(C)]
 pub struct Stored {
     pub bytes: [u8; 256],
     pub len: usize,

@@ -15,6 +15,7 @@ const MAX_READING: u64 = 18_446_744_071_709_551_615;
 
 const MAX_INSTANT: u64 = 18_446_744_073_709_551_615;
 
+#[repr(C)]
 pub struct OptionInstant {
     pub some: bool,
     pub value: u64,

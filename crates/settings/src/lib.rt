@@ -8,6 +8,7 @@ use protocol::config::RadarCal;
 // The most parameters of a settings list.
 pub const MAX_PARAMS: usize = 32;
 
+#[repr(C)]
 pub struct OptionRadarCal {
     pub some: bool,
     pub value: RadarCal,

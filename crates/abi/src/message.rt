@@ -1,0 +1,324 @@
+// Messages and envelopes, as a host hands them in.
+ghost use mathlib.Core.Path.{_≡_};
+ghost use Rattle.protocol.specs.Carried.{noDspStatus80, noDspStatus};
+ghost use Rattle.abi.specs.Messages.{dspStatusIn, dspStatusOut, knownParam, paramIn, paramOut, knownMessage, plainIn, recordIn, ackIn, messageIn, envelopeIn};
+use crate::number::addr_in;
+use protocol::Message;
+use protocol::addr::BusAddr;
+use protocol::camera::CamConfig;
+use protocol::config::ModeSet;
+use protocol::config::ParamData;
+use protocol::config::ParamValue;
+use protocol::config::RadarCal;
+use protocol::handshake::DspQueryResp;
+use protocol::handshake::TimeSync;
+use protocol::status::AvrStatus;
+use protocol::status::ConfigAck;
+use protocol::status::DspStatus;
+use protocol::status::DspStatus46;
+use protocol::status::DspStatus80;
+
+// How many kinds of messages there are.
+const KINDS: usize = 21;
+
+// `v80` counts where `layout` is 0, `v46` where it is 1.
+#[repr(C)]
+pub struct CDspStatus {
+    pub layout: u8,
+    pub v80: DspStatus80,
+    pub v46: DspStatus46,
+}
+
+// `int24` counts where `format` is 0, `float40` where it is 1.
+#[repr(C)]
+pub struct CParamValue {
+    pub param_id: u8,
+    pub format: u8,
+    pub int24: i32,
+    pub float40: f64,
+}
+
+// The record of its kind counts, and no other.
+#[repr(C)]
+pub struct CMessage {
+    pub kind: u8,
+    pub avr_status: AvrStatus,
+    pub dsp_status: CDspStatus,
+    pub ack: ConfigAck,
+    pub mode_set: ModeSet,
+    pub param_value: CParamValue,
+    pub radar_cal: RadarCal,
+    pub dsp_query_resp: DspQueryResp,
+    pub time_sync: TimeSync,
+    pub cam_config: CamConfig,
+}
+
+// `params` are the numbers of a `ConfigResp`. Text and payload stand beside.
+#[repr(C)]
+pub struct CEnvelope {
+    pub src: u8,
+    pub type_id: u8,
+    pub message: CMessage,
+    pub params: [i16; 34],
+}
+
+pub struct SomeDspStatus {
+    pub known: bool,
+    pub value: DspStatus,
+}
+
+pub struct SomeParamValue {
+    pub known: bool,
+    pub value: ParamValue,
+}
+
+pub struct SomeMessage {
+    pub known: bool,
+    pub value: Message,
+}
+
+pub struct SomeEnvelope {
+    pub known: bool,
+    pub src: BusAddr,
+    pub message: Message,
+}
+
+fn no_dsp_status_80() -> DspStatus80
+    ensures { λ r. ⌜ r ≡ noDspStatus80 ⌝ }
+{
+    DspStatus80 {
+        state: 0,
+        input_voltage_usb: 0,
+        system_voltage: 0,
+        battery_current: 0,
+        temperature_raw: 0,
+        battery_voltage: 0,
+        battery_voltage_2: 0,
+        power_level: 0,
+        external_power: false,
+    }
+}
+
+fn no_dsp_status() -> DspStatus
+    ensures { λ r. ⌜ r ≡ noDspStatus ⌝ }
+{
+    DspStatus::V80(no_dsp_status_80())
+}
+
+pub fn dsp_status_in(status: CDspStatus) -> SomeDspStatus
+    ensures { λ r. ⌜ r ≡ dspStatusIn status ⌝ }
+{
+    let v80 = status.v80;
+    let v46 = status.v46;
+    let layouts = [DspStatus::V80(v80), DspStatus::V46(v46)];
+    let at = status.layout as usize;
+    if at < 2 {
+        let value = layouts[at];
+        return SomeDspStatus {
+            known: true,
+            value: value,
+        };
+    }
+    SomeDspStatus {
+        known: false,
+        value: no_dsp_status(),
+    }
+}
+
+// The fields of the other layout are 0.
+pub fn dsp_status_out(status: DspStatus) -> CDspStatus
+    ensures { λ r. ⌜ r ≡ dspStatusOut status ⌝ }
+{
+    match status {
+        DspStatus::V80(v80) => CDspStatus {
+            layout: 0,
+            v80: v80,
+            v46: DspStatus46 {
+                state: 0,
+                version: 0,
+            },
+        },
+        DspStatus::V46(v46) => CDspStatus {
+            layout: 1,
+            v80: no_dsp_status_80(),
+            v46: v46,
+        },
+    }
+}
+
+fn known_param(param_id: u8, value: ParamData) -> SomeParamValue
+    ensures { λ r. ⌜ r ≡ knownParam «param_id» value ⌝ }
+{
+    SomeParamValue {
+        known: true,
+        value: ParamValue {
+            param_id: param_id,
+            value: value,
+        },
+    }
+}
+
+pub fn param_in(param: CParamValue) -> SomeParamValue
+    ensures { λ r. ⌜ r ≡ paramIn param ⌝ }
+{
+    if param.format == 0 {
+        return known_param(param.param_id, ParamData::Int24(param.int24));
+    }
+    if param.format == 1 {
+        return known_param(param.param_id, ParamData::Float40(param.float40));
+    }
+    SomeParamValue {
+        known: false,
+        value: ParamValue {
+            param_id: 0,
+            value: ParamData::Int24(0),
+        },
+    }
+}
+
+pub fn param_out(param: ParamValue) -> CParamValue
+    ensures { λ r. ⌜ r ≡ paramOut param ⌝ }
+{
+    let value = param.value;
+    match value {
+        ParamData::Int24(int24) => CParamValue {
+            param_id: param.param_id,
+            format: 0,
+            int24: int24,
+            float40: 0.0,
+        },
+        ParamData::Float40(float40) => CParamValue {
+            param_id: param.param_id,
+            format: 1,
+            int24: 0,
+            float40: float40,
+        },
+    }
+}
+
+fn known(message: Message) -> SomeMessage
+    ensures { λ r. ⌜ r ≡ knownMessage message ⌝ }
+{
+    SomeMessage {
+        known: true,
+        value: message,
+    }
+}
+
+// A kind that has no record. The places of those that have one are not come to.
+fn plain_in(kind: u8) -> SomeMessage
+    ensures { λ r. ⌜ r ≡ plainIn kind ⌝ }
+{
+    let kinds = [
+        Message::Other,
+        Message::Other,
+        Message::PiStatus,
+        Message::Other,
+        Message::Other,
+        Message::ModeAck,
+        Message::Text,
+        Message::Other,
+        Message::Other,
+        Message::Other,
+        Message::ConfigResp,
+        Message::AvrConfigResp,
+        Message::Other,
+        Message::DevInfoResp,
+        Message::ProdInfoResp,
+        Message::NetConfigResp,
+        Message::CalParamResp,
+        Message::CalDataResp,
+        Message::Other,
+        Message::Other,
+        Message::Other,
+    ];
+    let at = kind as usize;
+    if at < KINDS {
+        let value = kinds[at];
+        return known(value);
+    }
+    SomeMessage {
+        known: false,
+        value: Message::Other,
+    }
+}
+
+fn record_in(m: CMessage) -> SomeMessage
+    ensures { λ r. ⌜ r ≡ recordIn m ⌝ }
+{
+    if m.kind == 7 {
+        let mode_set = m.mode_set;
+        return known(Message::ModeSet(mode_set));
+    }
+    if m.kind == 9 {
+        let radar_cal = m.radar_cal;
+        return known(Message::RadarCal(radar_cal));
+    }
+    if m.kind == 12 {
+        let resp = m.dsp_query_resp;
+        return known(Message::DspQueryResp(resp));
+    }
+    if m.kind == 18 {
+        let time_sync = m.time_sync;
+        return known(Message::TimeSync(time_sync));
+    }
+    if m.kind == 19 {
+        let cam_config = m.cam_config;
+        return known(Message::CamConfig(cam_config));
+    }
+    plain_in(m.kind)
+}
+
+fn ack_in(m: CMessage) -> SomeMessage
+    ensures { λ r. ⌜ r ≡ ackIn m ⌝ }
+{
+    let ack = m.ack;
+    if m.kind == 3 {
+        return known(Message::ConfigAck(ack));
+    }
+    if m.kind == 4 {
+        return known(Message::ConfigNack(ack));
+    }
+    record_in(m)
+}
+
+// The layout of a DSP status and the format of a parameter are looked at where the message is one.
+pub fn message_in(m: CMessage) -> SomeMessage
+    ensures { λ r. ⌜ r ≡ messageIn m ⌝ }
+{
+    if m.kind == 0 {
+        let avr_status = m.avr_status;
+        return known(Message::AvrStatus(avr_status));
+    }
+    if m.kind == 1 {
+        let status = dsp_status_in(m.dsp_status);
+        let value = status.value;
+        return SomeMessage {
+            known: status.known,
+            value: Message::DspStatus(value),
+        };
+    }
+    if m.kind == 8 {
+        let param = param_in(m.param_value);
+        let value = param.value;
+        return SomeMessage {
+            known: param.known,
+            value: Message::ParamValue(value),
+        };
+    }
+    ack_in(m)
+}
+
+pub fn envelope_in(e: CEnvelope) -> SomeEnvelope
+    ensures { λ r. ⌜ r ≡ envelopeIn e ⌝ }
+{
+    let from = addr_in(e.src);
+    let told = message_in(e.message);
+    let src = from.value;
+    let message = told.value;
+    SomeEnvelope {
+        known: from.known & told.known,
+        src: src,
+        message: message,
+    }
+}

@@ -1,0 +1,3 @@
+pub mod Sends
+pub mod Untimed
+pub mod Timed
