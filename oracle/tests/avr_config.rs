@@ -343,7 +343,7 @@ fn states() {
             first,
             first,
             first,
-            "4: bad line at column 1: unknown call",
+            "4: bad line at column 1: unknown call: docs/REPLAY.md names them all",
             "mode=8 params=0 radar_cal=none",
             "mode=7 params=1 param_id=0x01 int24=-1 radar_cal=none",
             "mode=0 params=0 radar_cal=none",

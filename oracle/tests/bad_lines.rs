@@ -14,7 +14,10 @@ fn check(line: &str, column: usize, reason: &str) {
         Ok(_) => panic!("read: {line}"),
         Err(bad) => bad.to_string(),
     };
-    assert_eq!(answer, format!("bad line at column {column}: {reason}"));
+    // behind the reason may stand what to write instead
+    let told = format!("bad line at column {column}: {reason}");
+    let rest = answer.strip_prefix(&told).unwrap_or_else(|| panic!("{answer}, not {told}"));
+    assert!(rest.is_empty() || rest.starts_with(": "), "{answer}");
 }
 
 fn good(line: &str) -> Option<Call> {
@@ -208,10 +211,7 @@ fn of_the_sequence() {
     assert!(read(Which::Dsp, "take"));
     assert!(read(Which::Arm, " retries "));
     let extra = list::read(b"retries 1", Some(Which::Arm)).err().unwrap();
-    assert_eq!(
-        extra.to_string(),
-        "bad line at column 9: end of line expected"
-    );
+    assert!(extra.to_string().starts_with("bad line at column 9: end of line expected"));
 }
 
 #[test]
@@ -440,4 +440,28 @@ fn written_bytes() {
     assert_eq!(read("00fFA9"), [0, 0xFF, 0xA9]);
     assert_eq!(read("\"a \\\" \\\\ \\x0a\\xFF\""), b"a \" \\ \x0A\xFF");
     assert_eq!(read("\"é\x7F\""), "é\x7F".as_bytes());
+}
+
+/// What people write first: each is told what to write instead.
+#[test]
+fn hints() {
+    let info = "feed 1 Dsp 0xE7 DevInfoResp";
+    let hex = "not a hex digit: bytes are pairs of digits without 0x, or a text in double quotes";
+    let end = "end of line expected: a text or payload stands behind its name and =, a comment on a line of its own";
+    let number = "not a number: write one as 12 or 0x0C; a type id stands before the kind";
+    let kind = "unknown kind: docs/REPLAY.md names them all, and capitals count";
+    for (line, column, told) in [
+        (format!("{info} payload=0x46"), 38, hex),
+        (format!("{info} text=FS Xi"), 35, hex),
+        (format!("{info} \"FS Xi\""), 29, end),
+        ("check 2 # a comment".to_string(), 9, end),
+        ("feed 1 Dsp DspStatus".to_string(), 12, number),
+        ("feed 1 Dsp 0xAA Dspstatus".to_string(), 17, kind),
+    ] {
+        let bad = read(&line).err().expect("a bad line");
+        assert_eq!(bad.to_string(), format!("bad line at column {column}: {told}"));
+    }
+    let early = list::read(b"check 1", None).err().expect("a bad line");
+    let told = "bad line at column 1: no sequence has begun: a line such as dsp, avr Xi or arm begins one";
+    assert_eq!(early.to_string(), told);
 }

@@ -221,7 +221,7 @@ fn first_states() -> [String; 6] {
     [
         format!("last=0 status=none hw_info=none {early} deadline=none {END}"),
         second.clone(),
-        "3: bad line at column 1: unknown call".to_string(),
+        "3: bad line at column 1: unknown call: docs/REPLAY.md names them all".to_string(),
         second,
         format!("last=2 {STATUS} {HW_INFO} {early} deadline=none {END}"),
         format!("last=3 {STATUS} {HW_INFO} {DEV_INFO} {NO_PROD_INFO} deadline=none {END}"),

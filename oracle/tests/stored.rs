@@ -24,7 +24,8 @@ fn answers_of_the_sample_and_the_trials() {
 #[test]
 fn the_sample_meets_everything() {
     let sample = stored("crates/replay/data/sample.list");
-    let lines: Vec<String> = sample.split_terminator('\n').map(String::from).collect();
+    let unmarked = sample.strip_prefix('\u{FEFF}').expect("a byte order mark");
+    let lines: Vec<String> = unmarked.split_terminator('\n').map(String::from).collect();
     let coverage = Coverage::of_list(&lines);
     assert_eq!(coverage.missing(&Which::ALL), Vec::<String>::new());
     assert_eq!(coverage.missing_reasons(&Which::ALL), Vec::<String>::new());

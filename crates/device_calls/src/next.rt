@@ -9,6 +9,7 @@ use reading::call::read_line;
 use streams::INPUT;
 use streams::LONGER;
 use streams::Stream;
+use words::byte_at;
 use words::kinds::VALUES;
 use words::part;
 use writing::write::OUT;
@@ -78,10 +79,22 @@ fn call_of(
     let c = read.c;
     if c.bad() {
         let end = bad::line(c, out, numbered.out);
-        return Turn::without_call(numbered.answered(out, end));
+        return Turn::without_call(numbered.unread_line().answered(out, end));
     }
     let call = read.call;
     outside(numbered, call, bytes, out)
+}
+
+// The line that was read. A byte order mark before the first one is taken as nothing.
+fn line_of(line: &[u8], stream: Stream) -> &[u8] {
+    let whole = part(line, 0, stream.line);
+    if stream.number != 1 {
+        return whole;
+    }
+    if byte_at(whole, 0) == 0xEF && byte_at(whole, 1) == 0xBB && byte_at(whole, 2) == 0xBF {
+        return part(whole, 3, whole.len());
+    }
+    whole
 }
 
 // The next call for a sequence that has these calls, none before the first sequence.
@@ -104,7 +117,7 @@ pub fn next(
         }
         turn = call_of(
             stream,
-            part(line, 0, stream.line),
+            line_of(line, stream),
             calls,
             values,
             bytes,

@@ -6,6 +6,7 @@ use reading::bytes::BYTES;
 use reading::call::Call;
 use reading::call::NO_CALLS;
 use reading::call::Sequence;
+use streams::Ended;
 use streams::INPUT;
 use streams::LONGER;
 use streams::Stream;
@@ -56,8 +57,8 @@ fn answer(
     turn.stream
 }
 
-// Answers a whole list, and whether it could be read.
-pub fn replay(fd: i32, with_state: bool) -> bool {
+// Answers a whole list, and how it ended.
+pub fn replay(fd: i32, with_state: bool) -> Ended {
     let mut input = [0u8; INPUT];
     let mut line = [0u8; LONGER];
     let mut values = [0u64; VALUES];

@@ -44,8 +44,14 @@ pub const NOT_ITS_CALL: usize = 19;
 pub const EXPECTED: usize = 32;
 
 // The texts, each before a bar.
-pub const REASONS: [u8; 336] =
-    *b"|not a number|out of range|not a bool|not a float|a NaN can't be read|end of line expected|\
-    control byte in a text|bad escape|text not closed|not a hex digit|odd number of hex digits|\
-    34 numbers expected|unknown kind|unknown model|unknown source|unknown call|no sequence has begun|\
-    line longer than 65536 bytes|not a call of this sequence|";
+pub const REASONS: [u8; 720] =
+    *b"|not a number: write one as 12 or 0x0C; a type id stands before the kind|out of range|not a bool|\
+    not a float|a NaN can't be read|\
+    end of line expected: a text or payload stands behind its name and =, a comment on a line of its own|\
+    control byte in a text|bad escape|text not closed|\
+    not a hex digit: bytes are pairs of digits without 0x, or a text in double quotes|\
+    odd number of hex digits|34 numbers expected|\
+    unknown kind: docs/REPLAY.md names them all, and capitals count|unknown model: Mevo or Xi expected|\
+    unknown source: App, Pi, Avr or Dsp expected|unknown call: docs/REPLAY.md names them all|\
+    no sequence has begun: a line such as dsp, avr Xi or arm begins one|line longer than 65536 bytes|\
+    not a call of this sequence|";

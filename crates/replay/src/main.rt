@@ -1,16 +1,23 @@
-// replay [--state] [FILE]: writes what each call of a list answers, as docs/REPLAY.md says.
+// replay [--state] [--status] [FILE]: writes what each call of a list answers, as docs/REPLAY.md says. Messages go to standard error. A
+// program has no exit status: with --status it is written to descriptor 3, from which the script ./replay takes it.
 use libc::STDIN_FILENO;
-use libc::STDOUT_FILENO;
+use libc::STDERR_FILENO;
+use streams::Ended;
+
+// Where the exit status goes.
+const STATUS_FILENO: i32 = 3;
 
 // What the command line asks. `file` is the number of its argument, or 0.
 struct Task {
     valid: bool,
     with_state: bool,
+    with_status: bool,
     file: usize,
 }
 
 enum Argument {
     State,
+    Status,
     File,
     Unknown,
 }
@@ -20,6 +27,9 @@ fn read_argument(i: usize) -> Argument {
     let n = os::arg(i, &mut word);
     if check::same(&word[..n], b"--state") {
         return Argument::State;
+    }
+    if check::same(&word[..n], b"--status") {
+        return Argument::Status;
     }
     if n < 2 {
         return Argument::File;
@@ -35,6 +45,7 @@ impl Task {
         let mut next = self;
         match read_argument(i) {
             Argument::State => next.with_state = true,
+            Argument::Status => next.with_status = true,
             Argument::File => {
                 next.valid = self.file == 0 && self.valid;
                 next.file = i;
@@ -49,6 +60,7 @@ fn read_task() -> Task {
     let mut task = Task {
         valid: true,
         with_state: false,
+        with_status: false,
         file: 0,
     };
     let count = os::arg_count();
@@ -60,42 +72,63 @@ fn read_task() -> Task {
     task
 }
 
-fn complain(about: &[u8], what: &[u8]) {
-    io::write_all(STDOUT_FILENO, b"replay: ");
-    io::write_all(STDOUT_FILENO, about);
-    io::write_all(STDOUT_FILENO, what);
+// Writes a message, and answers the status that belongs to it: a digit.
+fn complain(about: &[u8], what: &[u8]) -> u8 {
+    io::write_all(STDERR_FILENO, b"replay: ");
+    io::write_all(STDERR_FILENO, about);
+    io::write_all(STDERR_FILENO, what);
+    b'2'
 }
 
-fn replay_input(with_state: bool) {
-    if !lists::replay(STDIN_FILENO, with_state) {
-        complain(b"standard input", b": can't be read\n");
+// The status of a list that ended so; `about` names its input.
+fn status(ended: Ended, about: &[u8]) -> u8 {
+    if ended.unwritten {
+        return complain(b"standard output", b": can't be written\n");
     }
+    if ended.unread {
+        return complain(about, b": can't be read\n");
+    }
+    if ended.bad_line {
+        return b'1';
+    }
+    b'0'
 }
 
 // `file` is the number of its argument.
-fn replay_file(file: usize, with_state: bool) {
+fn replay_file(file: usize, with_state: bool) -> u8 {
     let mut path = io::buffer();
     let n = os::arg(file, &mut path);
+    if check::same(&path[..n], b"-") {
+        return status(lists::replay(STDIN_FILENO, with_state), b"standard input");
+    }
     let fd = os::open_read(&path[..n]);
     if fd < 0 {
-        complain(&path[..n], b": can't be opened\n");
-        return;
+        io::write_all(STDERR_FILENO, b"replay: ");
+        os::fail(&path[..n]);
+        return b'2';
     }
-    if !lists::replay(fd, with_state) {
-        complain(&path[..n], b": can't be read\n");
-    }
+    let ended = lists::replay(fd, with_state);
     libc::close(fd);
+    status(ended, &path[..n])
+}
+
+fn run(task: Task) -> u8 {
+    if !task.valid {
+        return complain(b"usage: replay [--state] [FILE]", b"\n");
+    }
+    if task.file == 0 {
+        return status(
+            lists::replay(STDIN_FILENO, task.with_state),
+            b"standard input",
+        );
+    }
+    replay_file(task.file, task.with_state)
 }
 
 fn main() {
     let task = read_task();
-    if !task.valid {
-        complain(b"usage: replay [--state] [FILE]", b"\n");
-        return;
+    let status = run(task);
+    if task.with_status {
+        io::write_all(STATUS_FILENO, &[status]);
     }
-    if task.file == 0 {
-        replay_input(task.with_state);
-        return;
-    }
-    replay_file(task.file, task.with_state);
 }

@@ -31,8 +31,22 @@ pub struct Stream {
     pub out: usize,
     // whether there is more to read, and output can be written
     pub more: bool,
+    // whether a line could not be read
+    pub bad_line: bool,
     // whether a read failed
-    pub failed: bool,
+    pub unread: bool,
+    // whether output was lost
+    pub unwritten: bool,
+}
+
+// How a list ended.
+pub struct Ended {
+    // a line was none that can be read
+    pub bad_line: bool,
+    // the input could not be read
+    pub unread: bool,
+    // output could not be written
+    pub unwritten: bool,
 }
 
 // The next bytes of a line, up to its line feed or the end of the input.
@@ -80,7 +94,9 @@ impl Stream {
             whole: false,
             out: 0,
             more: true,
-            failed: false,
+            bad_line: false,
+            unread: false,
+            unwritten: false,
         }
     }
 
@@ -112,6 +128,7 @@ impl Stream {
         next.out = 0;
         if !io::write_all(STDOUT_FILENO, part(out, 0, self.out)) {
             next.more = false;
+            next.unwritten = true;
         }
         next
     }
@@ -124,7 +141,7 @@ impl Stream {
         next.end = io::count(got, input);
         if got <= 0 {
             next.more = false;
-            next.failed = got < 0;
+            next.unread = got < 0;
         }
         next
     }
@@ -169,6 +186,13 @@ impl Stream {
         next
     }
 
+    // After a line that can't be read, and is answered so.
+    pub fn unread_line(self) -> Stream {
+        let mut next = self;
+        next.bad_line = true;
+        next
+    }
+
     // After an answer that ends at `at`.
     pub fn answered(self, out: &mut [u8; OUT], at: usize) -> Stream {
         let mut next = self;
@@ -176,9 +200,13 @@ impl Stream {
         next.flushed(out, NEARLY_FULL)
     }
 
-    // Writes the rest of the output out, and answers whether the list was read to its end.
-    pub fn finish(self, out: &[u8; OUT]) -> bool {
+    // Writes the rest of the output out, and answers how the list ended.
+    pub fn finish(self, out: &[u8; OUT]) -> Ended {
         let last = self.flushed(out, 0);
-        !last.failed
+        Ended {
+            bad_line: last.bad_line,
+            unread: last.unread,
+            unwritten: last.unwritten,
+        }
     }
 }

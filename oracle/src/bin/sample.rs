@@ -13,6 +13,8 @@ use oracle::protocol::handshake::DeviceModel;
 const USAGE: &str = "usage: sample FILE";
 /// One with which so few calls meet everything.
 const SEED: u64 = 315;
+/// A byte order mark, which is taken as nothing.
+const MARK: char = '\u{FEFF}';
 /// Of each sequence and model.
 const GOOD_CALLS: u64 = 1_100;
 const CALLS_BETWEEN_BAD_LINES: u64 = 1_500;
@@ -55,6 +57,6 @@ fn sample(file: &Path) -> io::Result<Vec<String>> {
     let coverage = Coverage::of_list(&lines);
     missing.extend(coverage.missing(&Which::ALL));
     missing.extend(coverage.missing_reasons(&Which::ALL));
-    fs::write(file, as_text(&lines))?;
+    fs::write(file, format!("{MARK}{}", as_text(&lines)))?;
     Ok(missing)
 }
