@@ -115,14 +115,7 @@ pub fn next(
         if !stream.has_line() {
             return Turn::without_call(stream);
         }
-        turn = call_of(
-            stream,
-            line_of(line, stream),
-            calls,
-            values,
-            bytes,
-            out,
-        );
+        turn = call_of(stream, line_of(line, stream), calls, values, bytes, out);
         turns -= 1;
     }
     turn

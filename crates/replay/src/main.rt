@@ -1,7 +1,7 @@
 // replay [--state] [--status] [FILE]: writes what each call of a list answers, as docs/REPLAY.md says. Messages go to standard error. A
 // program has no exit status: with --status it is written to descriptor 3, from which the script ./replay takes it.
-use libc::STDIN_FILENO;
 use libc::STDERR_FILENO;
+use libc::STDIN_FILENO;
 use streams::Ended;
 
 // Where the exit status goes.
