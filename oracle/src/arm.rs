@@ -22,6 +22,11 @@ impl Sequencer for ArmSequencer {
         }
     }
 
+    /// It goes back, so its steps are no entries.
+    fn awaits(&self) -> Option<usize> {
+        None
+    }
+
     /// The one that has a camera or hasn't.
     fn model(&self) -> Option<DeviceModel> {
         Some(match inspect::arm(self).wait_pi {

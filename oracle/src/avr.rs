@@ -16,6 +16,25 @@ impl Sequencer for AvrSequencer {
         Step::plain(inspect::avr(self).step)
     }
 
+    /// A Xi has no 8, and none after 9.
+    fn awaits(&self) -> Option<usize> {
+        Some(match inspect::avr(self).step {
+            "WaitStatus1" => 1,
+            "WaitStatus2" => 2,
+            "WaitDevInfo1" => 3,
+            "WaitDevInfo2" => 4,
+            "WaitParam0C" => 5,
+            "WaitParam0D" => 6,
+            "WaitConfig" => 7,
+            "WaitFactoryCal" => 8,
+            "WaitIfCal" => 9,
+            "WaitAvrConfig" => 10,
+            "WaitParam64" => 11,
+            "WaitTimeSync" => 12,
+            _ => return None,
+        })
+    }
+
     fn waits(&self) -> Waits {
         let seq = inspect::avr(self);
         Waits {

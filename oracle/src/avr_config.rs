@@ -47,6 +47,22 @@ impl Sequencer for AvrConfigSequencer {
         }
     }
 
+    /// Two entries of each parameter stand between the first and the mode's.
+    fn awaits(&self) -> Option<usize> {
+        let seq = inspect::avr_config(self);
+        let behind = 1 + 2 * seq.settings.params.len();
+        Some(match (seq.step, seq.param_idx) {
+            ("WaitInitGateAck", _) => 1,
+            ("WaitParamAck", Some(idx)) => 2 + 2 * idx,
+            ("WaitParamCommitAck", Some(idx)) => 3 + 2 * idx,
+            ("WaitModeEcho", _) => behind + 1,
+            ("WaitModeCommitAck", _) => behind + 2,
+            ("WaitRadarCalEcho", _) => behind + 3,
+            ("WaitRadarCalCommitAck", _) => behind + 4,
+            _ => return None,
+        })
+    }
+
     fn echoes(&self) -> Option<Echoes> {
         let settings = inspect::avr_config(self).settings;
         let cal = settings.radar_cal.as_ref();

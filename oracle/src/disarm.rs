@@ -12,6 +12,15 @@ impl Sequencer for DisarmSequencer {
         Step::plain(inspect::disarm_step(self))
     }
 
+    fn awaits(&self) -> Option<usize> {
+        Some(match inspect::disarm_step(self) {
+            "WaitAck" => 1,
+            "WaitModeReset" => 2,
+            "WaitStateIdle" => 3,
+            _ => return None,
+        })
+    }
+
     /// Its step is all it has.
     fn state(&self, _clock: &Clock, _out: &mut String) {}
 }

@@ -17,6 +17,20 @@ impl Sequencer for DspSequencer {
         Step::plain(inspect::dsp(self).step)
     }
 
+    fn awaits(&self) -> Option<usize> {
+        Some(match inspect::dsp(self).step {
+            "WaitStatus" => 1,
+            "WaitDspQuery" => 2,
+            "WaitDevInfo" => 3,
+            "WaitProdInfo0" => 4,
+            "WaitProdInfo1" => 5,
+            "WaitProdInfo2" => 6,
+            "WaitConfig" => 7,
+            "WaitPowerMode" => 8,
+            _ => return None,
+        })
+    }
+
     fn waits(&self) -> Waits {
         Waits {
             deadline: inspect::dsp(self).deadline,

@@ -18,6 +18,21 @@ impl Sequencer for PiSequencer {
         }
     }
 
+    fn awaits(&self) -> Option<usize> {
+        let seq = inspect::pi(self);
+        Some(match (seq.step, seq.params) {
+            ("WaitStatus", _) => 1,
+            ("WaitDevInfo", _) => 2,
+            ("WaitParam0A", _) => 3,
+            ("WaitCamConfig1", _) => 4,
+            ("WaitCamConfig2", _) => 5,
+            ("WaitNetConfig", _) => 6,
+            ("WaitNetConfigPw", _) => 7,
+            (_, Some((_, idx))) => 8 + idx,
+            _ => return None,
+        })
+    }
+
     fn result(&self, out: &mut String) {
         let sync = inspect::done_pi(self).into_result();
         write::dev_info(out, Some(&sync.dev_info));

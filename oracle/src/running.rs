@@ -93,6 +93,10 @@ pub trait Sequencer: Sequence {
     const WHICH: Which;
     fn step(&self) -> Step;
 
+    /// The number of the entry that is awaited, as docs/MACHINES.md counts
+    /// them from 1. None is at Done, and an arm has no entries.
+    fn awaits(&self) -> Option<usize>;
+
     fn waits(&self) -> Waits {
         Waits::default()
     }
@@ -186,9 +190,24 @@ impl<S: Sequencer> Run<S> {
         refusal::of_reading(now, self.clock.last)
     }
 
-    fn accepted(&mut self, now: u64, actions: &[Action], out: &mut String) {
+    /// Where a sequence stands: an entry was ticked if it stands elsewhere
+    /// after a call.
+    fn place(&self) -> (Step, Option<usize>) {
+        (self.seq.step(), self.seq.awaits())
+    }
+
+    fn accepted(
+        &mut self,
+        now: u64,
+        before: (Step, Option<usize>),
+        actions: &[Action],
+        out: &mut String,
+    ) {
         self.clock.last = now;
         out.push_str("accepted; ");
+        if let (Some(entry), true) = (before.1, self.seq.step() != before.0) {
+            write::ticked(out, entry);
+        }
         write::sends(out, actions);
         write::step(out, self.seq.step());
     }
@@ -209,17 +228,19 @@ impl<S: Sequencer> Running for Run<S> {
         if let Some(number) = refusal {
             return self.refused(number, out);
         }
+        let before = self.place();
         let (now, wall) = (self.clock.at(feed.now), wall(feed.wall));
         let actions = self.seq.feed(&envelope(feed), now, wall);
-        self.accepted(feed.now, &actions, out);
+        self.accepted(feed.now, before, &actions, out);
     }
 
     fn check(&mut self, now: u64, out: &mut String) {
         if let Some(number) = self.refusal_of_reading(now) {
             return self.refused(number, out);
         }
+        let before = self.place();
         let actions = self.seq.check(self.clock.at(now));
-        self.accepted(now, &actions, out);
+        self.accepted(now, before, &actions, out);
     }
 
     fn result(&self, out: &mut String) {

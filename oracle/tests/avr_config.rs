@@ -265,10 +265,8 @@ fn sends() {
             list[entries - 1] = MODE;
         }
         let answers = answers(&list.join("\n"), false);
-        assert!(
-            answers.ends_with(": accepted; no send; Done\n"),
-            "{answers}"
-        );
+        let done = format!(": accepted; ticked {entries}; no send; Done\n");
+        assert!(answers.ends_with(&done), "{answers}");
         assert_eq!(answers.matches("Done").count(), 1);
         answers.matches("; send ").count()
     };

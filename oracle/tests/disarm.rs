@@ -189,7 +189,7 @@ fn states() {
     let list = ["disarm", ACKED.0, "feed 0 Avr 1 Other", "keepalive Xi"].join("\n");
     let expected = [
         "1: send Avr AvrConfigCmd arm=false; WaitAck; state",
-        "2: accepted; no send; WaitModeReset; state",
+        "2: accepted; ticked 1; no send; WaitModeReset; state",
         "3: accepted; no send; WaitModeReset; state",
         "4: send Dsp StatusPoll pi_mode=false; send Avr StatusPoll pi_mode=false; no send",
     ];

@@ -118,6 +118,10 @@ fn takes(list: &[String], arrow: &Arrow) {
     let last = answers.lines().last().unwrap();
     let (_, answer) = last.split_once(": ").unwrap();
     let answer = answer.strip_prefix("accepted; ").unwrap_or(answer);
+    let ticked = arrow.entry.map(|entry| format!("ticked {entry}; "));
+    let answer = answer
+        .strip_prefix(&ticked.unwrap_or_default())
+        .expect(last);
     let (send, step) = answer.rsplit_once("; ").unwrap();
     let send = send.strip_prefix("send ").unwrap_or(send);
     let step = step.split(' ').next().unwrap();

@@ -49,12 +49,13 @@ pub fn begin(model: DeviceModel, out: &mut [u8; OUT], at: usize) -> Answered {
     }
 }
 
+// An arm goes back, so it has no entries to tick.
 pub fn fed(out: &mut [u8; OUT], at: usize, fed: ArmFed) -> Answered {
     let outcome = fed.outcome;
     let action = fed.action;
     let arm = fed.seq;
     let step = arm.step;
-    let end = send::fed(out, at, outcome, action);
+    let end = send::fed(out, at, outcome, 0, action);
     Answered {
         running: Running::Arm(arm),
         at: name(out, end, step),

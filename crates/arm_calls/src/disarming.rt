@@ -34,12 +34,14 @@ pub fn begin(out: &mut [u8; OUT], at: usize) -> Answered {
     }
 }
 
-pub fn fed(out: &mut [u8; OUT], at: usize, fed: DisarmFed) -> Answered {
+// The answer to a call before which this step was awaited. Each step has one entry.
+pub fn fed(out: &mut [u8; OUT], at: usize, before: DisarmStep, fed: DisarmFed) -> Answered {
     let outcome = fed.outcome;
     let action = fed.action;
     let disarm = fed.seq;
     let step = disarm.step;
-    let end = send::fed(out, at, outcome, action);
+    let ticked = send::ticked(number_of(before), number_of(step));
+    let end = send::fed(out, at, outcome, ticked, action);
     Answered {
         running: Running::Disarm(disarm),
         at: name(out, end, step),

@@ -70,11 +70,9 @@ fn feed(
             arming::fed(out, at, arm.feed(src, feed.type_id, message, text, payload))
         }
         Running::Disarm(disarm) => {
-            disarming::fed(
-                out,
-                at,
-                disarm.feed(src, feed.type_id, message, text, payload),
-            )
+            let before = disarm.step;
+            let after = disarm.feed(src, feed.type_id, message, text, payload);
+            disarming::fed(out, at, before, after)
         }
     }
 }

@@ -76,11 +76,13 @@ fn begin(model: DeviceModel, out: &mut [u8; OUT], at: usize) -> Answered {
     }
 }
 
-fn fed(out: &mut [u8; OUT], at: usize, fed: AvrFed) -> Answered {
+// The answer to a call before which this step was awaited. Each step has one entry.
+fn fed(out: &mut [u8; OUT], at: usize, before: AvrStep, fed: AvrFed) -> Answered {
     let outcome = fed.outcome;
     let action = fed.action;
     let avr = fed.seq;
-    let end = send::fed(out, at, outcome, action);
+    let ticked = send::ticked(number_of(before), number_of(step_of(avr)));
+    let end = send::fed(out, at, outcome, ticked, action);
     Answered {
         avr: avr,
         at: name(out, end, step_of(avr)),
@@ -110,11 +112,11 @@ fn feed(
         feed.now,
         feed.wall,
     );
-    fed(out, at, after)
+    fed(out, at, step_of(avr), after)
 }
 
 fn check(avr: AvrSequencer, now: u64, out: &mut [u8; OUT], at: usize) -> Answered {
-    fed(out, at, avr.check_cal_timeout(now))
+    fed(out, at, step_of(avr), avr.check_cal_timeout(now))
 }
 
 fn result(avr: AvrSequencer, out: &mut [u8; OUT], at: usize) -> usize {

@@ -30,6 +30,9 @@ const CALLS: Calls = Calls {
     retries: false,
 };
 
+// The place of the entry that is awaited when a run begins.
+const FIRST: usize = 0;
+
 // The run after a call, and the end of the answer.
 struct Answered {
     run: AvrConfigSequencer,
@@ -49,6 +52,31 @@ fn number_of(step: AvrConfigStep) -> usize {
     }
 }
 
+// Twice a number of parameters, which are few, and something more.
+fn twice(params: usize, more: usize) -> usize {
+    std::num::wrapping_add_usize(std::num::wrapping_add_usize(params, params), more)
+}
+
+// The place of the entry that is awaited. Each of the parameters has two, between the first entry and that of the mode.
+fn entry_of(step: AvrConfigStep, params: usize) -> usize {
+    match step {
+        AvrConfigStep::WaitInitGateAck => FIRST,
+        AvrConfigStep::WaitParamAck { param_idx } => twice(param_idx, 1),
+        AvrConfigStep::WaitParamCommitAck { param_idx } => twice(param_idx, 2),
+        AvrConfigStep::WaitModeEcho => twice(params, 1),
+        AvrConfigStep::WaitModeCommitAck => twice(params, 2),
+        AvrConfigStep::WaitRadarCalEcho => twice(params, 3),
+        AvrConfigStep::WaitRadarCalCommitAck => twice(params, 4),
+        AvrConfigStep::Done => twice(params, 5),
+    }
+}
+
+fn awaited(run: AvrConfigSequencer) -> usize {
+    let step = run.step;
+    let settings = run.settings;
+    entry_of(step, settings.len)
+}
+
 fn index(out: &mut [u8; OUT], at: usize, param_idx: usize) -> usize {
     fields::number(out, at, b"param_idx", param_idx as u64)
 }
@@ -65,13 +93,14 @@ fn name(out: &mut [u8; OUT], at: usize, step: AvrConfigStep) -> usize {
     }
 }
 
-// A run that has begun answers as one that was fed.
-fn fed(out: &mut [u8; OUT], at: usize, fed: AvrConfigFed) -> Answered {
+// The answer to a call before which this entry was awaited. A run that has begun answers as one that was fed.
+fn fed(out: &mut [u8; OUT], at: usize, before: usize, fed: AvrConfigFed) -> Answered {
     let outcome = fed.outcome;
     let action = fed.action;
     let run = fed.seq;
     let step = run.step;
-    let end = send::fed(out, at, outcome, action);
+    let ticked = send::ticked(before, awaited(run));
+    let end = send::fed(out, at, outcome, ticked, action);
     Answered {
         run: run,
         at: name(out, end, step),
@@ -82,6 +111,7 @@ fn begin(settings: Settings, values: &[u64; VALUES], out: &mut [u8; OUT], at: us
     fed(
         out,
         at,
+        FIRST,
         AvrConfigSequencer::new(given::settings(settings, values)),
     )
 }
@@ -98,7 +128,8 @@ fn feed(
     let message = messages::message(feed.kind, values);
     let text = part(bytes, 0, feed.text);
     let payload = part(bytes, feed.text, feed.payload);
-    fed(out, at, run.feed(src, feed.type_id, message, text, payload))
+    let after = run.feed(src, feed.type_id, message, text, payload);
+    fed(out, at, awaited(run), after)
 }
 
 // A call of a run that has begun: it has no other than `feed`.

@@ -70,11 +70,13 @@ fn begin(out: &mut [u8; OUT], at: usize) -> Answered {
     }
 }
 
-fn fed(out: &mut [u8; OUT], at: usize, fed: DspFed) -> Answered {
+// The answer to a call before which this step was awaited. Each step has one entry.
+fn fed(out: &mut [u8; OUT], at: usize, before: DspStep, fed: DspFed) -> Answered {
     let outcome = fed.outcome;
     let action = fed.action;
     let dsp = fed.seq;
-    let end = send::fed(out, at, outcome, action);
+    let ticked = send::ticked(number_of(before), number_of(step_of(dsp)));
+    let end = send::fed(out, at, outcome, ticked, action);
     Answered {
         dsp: dsp,
         at: name(out, end, step_of(dsp)),
@@ -94,15 +96,12 @@ fn feed(
     let numbers = messages::params(feed.kind, values);
     let text = part(bytes, 0, feed.text);
     let payload = part(bytes, feed.text, feed.payload);
-    fed(
-        out,
-        at,
-        dsp.feed(src, feed.type_id, message, numbers, text, payload, feed.now),
-    )
+    let after = dsp.feed(src, feed.type_id, message, numbers, text, payload, feed.now);
+    fed(out, at, step_of(dsp), after)
 }
 
 fn check(dsp: DspSequencer, now: u64, out: &mut [u8; OUT], at: usize) -> Answered {
-    fed(out, at, dsp.check_timeout(now))
+    fed(out, at, step_of(dsp), dsp.check_timeout(now))
 }
 
 fn result(dsp: DspSequencer, out: &mut [u8; OUT], at: usize) -> usize {

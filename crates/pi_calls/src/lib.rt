@@ -50,6 +50,15 @@ fn number_of(step: PiStep) -> usize {
     }
 }
 
+// The place of the entry that is awaited. Of the last step each parameter has one.
+fn entry_of(step: PiStep) -> usize {
+    match step {
+        PiStep::WaitParams { idx } => std::num::wrapping_add_usize(7, idx),
+        PiStep::Done => 16,
+        _ => number_of(step),
+    }
+}
+
 fn name(out: &mut [u8; OUT], at: usize, step: PiStep) -> usize {
     let names =
         b"WaitStatus WaitDevInfo WaitParam0A WaitCamConfig1 WaitCamConfig2 WaitNetConfig WaitNetConfigPw WaitParams Done";
@@ -72,12 +81,14 @@ fn begin(out: &mut [u8; OUT], at: usize) -> Answered {
     }
 }
 
-fn fed(out: &mut [u8; OUT], at: usize, fed: PiFed) -> Answered {
+// The answer to a call before which this step was awaited.
+fn fed(out: &mut [u8; OUT], at: usize, before: PiStep, fed: PiFed) -> Answered {
     let outcome = fed.outcome;
     let action = fed.action;
     let pi = fed.seq;
     let step = pi.step;
-    let end = send::fed(out, at, outcome, action);
+    let ticked = send::ticked(entry_of(before), entry_of(step));
+    let end = send::fed(out, at, outcome, ticked, action);
     Answered {
         pi: pi,
         at: name(out, end, step),
@@ -96,7 +107,9 @@ fn feed(
     let message = messages::message(feed.kind, values);
     let text = part(bytes, 0, feed.text);
     let payload = part(bytes, feed.text, feed.payload);
-    fed(out, at, pi.feed(src, feed.type_id, message, text, payload))
+    let before = pi.step;
+    let after = pi.feed(src, feed.type_id, message, text, payload);
+    fed(out, at, before, after)
 }
 
 fn result(pi: PiSequencer, out: &mut [u8; OUT], at: usize) -> usize {

@@ -154,9 +154,33 @@ pub fn sent(out: &mut [u8; OUT], at: usize, action: Action) -> usize {
     write::text(out, end, b"; ")
 }
 
-// Whether a call was accepted, and what it sends. The step goes behind it.
-pub fn fed(out: &mut [u8; OUT], at: usize, answer: Outcome, action: Action) -> usize {
+// The entry that a call has ticked, from 1, by the places from 0 of those awaited before and after it: 0 where it has ticked none.
+pub fn ticked(before: usize, after: usize) -> usize {
+    if before == after {
+        return 0;
+    }
+    std::num::wrapping_add_usize(before, 1)
+}
+
+fn entry(out: &mut [u8; OUT], at: usize, entry: usize) -> usize {
+    if entry == 0 {
+        return at;
+    }
+    let mut end = write::text(out, at, b"ticked ");
+    end = write::decimal(out, end, entry as u64);
+    write::text(out, end, b"; ")
+}
+
+// Whether a call was accepted, the entry that it has ticked, or 0, and what it sends. The step goes behind it.
+pub fn fed(
+    out: &mut [u8; OUT],
+    at: usize,
+    answer: Outcome,
+    ticked: usize,
+    action: Action,
+) -> usize {
     let mut end = outcome(out, at, answer);
     end = write::text(out, end, b"; ");
+    end = entry(out, end, ticked);
     sent(out, end, action)
 }

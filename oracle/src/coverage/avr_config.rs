@@ -191,8 +191,9 @@ fn acked(step: &str, feed: &Feed) -> Option<&'static str> {
 
 /// What kind of value a parameter has that was sent.
 fn sent(answer: &str) -> Option<&'static str> {
-    let send = answer.split("; ").nth(1)?;
-    let (_, value) = send.strip_prefix("send Avr ParamValue ")?.split_once(' ')?;
+    let mut parts = answer.split("; ");
+    let send = parts.find_map(|part| part.strip_prefix("send Avr ParamValue "))?;
+    let (_, value) = send.split_once(' ')?;
     match value.split_once('=')? {
         ("int24", digits) => digits.parse().ok().map(integer),
         (_, digits) => {

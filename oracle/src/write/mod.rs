@@ -109,6 +109,13 @@ pub fn reading(out: &mut String, field: &str, value: Option<u64>) {
     }
 }
 
+/// The entry that a call has ticked, before what is sent.
+pub fn ticked(out: &mut String, entry: usize) {
+    out.push_str("ticked ");
+    decimal(out, entry as u64);
+    out.push_str("; ");
+}
+
 /// The step that is next, at the end of an answer.
 pub fn step(out: &mut String, step: Step) {
     out.push_str("; ");
