@@ -71,18 +71,20 @@ fn call_of(
     bytes: &mut [u8; BYTES],
     out: &mut [u8; OUT],
 ) -> Turn {
+    let echoed = stream.echoed(line, out);
     if is_comment(line) {
-        return Turn::without_call(stream);
+        return Turn::without_call(echoed);
     }
-    let numbered = stream.numbered(out);
+    let numbered = echoed.numbered(out);
     let read = read_line(line, calls, values, bytes);
     let c = read.c;
     if c.bad() {
-        let end = bad::line(c, out, numbered.out);
-        return Turn::without_call(numbered.unread_line().answered(out, end));
+        let unread = numbered.unread_line(line, c.at, out);
+        let end = bad::line(c, out, unread.out);
+        return Turn::without_call(unread.answered(out, end));
     }
     let call = read.call;
-    outside(numbered, call, bytes, out)
+    outside(numbered.called(call), call, bytes, out)
 }
 
 // The line that was read. A byte order mark before the first one is taken as nothing.
@@ -108,15 +110,21 @@ pub fn next(
     bytes: &mut [u8; BYTES],
     out: &mut [u8; OUT],
 ) -> Turn {
-    let mut turn = Turn::without_call(start);
+    let mut stream = start;
     let mut turns = u64::MAX;
-    while 0 < turns && turn.ends() {
-        let stream = turn.stream.next_line(input, line, out);
+    loop {
+        stream = stream.next_line(input, line, out);
         if !stream.has_line() {
             return Turn::without_call(stream);
         }
-        turn = call_of(stream, line_of(line, stream), calls, values, bytes, out);
+        let turn = call_of(stream, line_of(line, stream), calls, values, bytes, out);
+        if !turn.ends() {
+            return turn;
+        }
+        if turns == 0 {
+            return turn;
+        }
         turns -= 1;
+        stream = turn.stream;
     }
-    turn
 }

@@ -57,20 +57,20 @@ fn answer(
     turn.stream
 }
 
-// Answers a whole list, and how it ended.
-pub fn replay(fd: i32, with_state: bool) -> Ended {
+// Answers a whole list, with the stored states if they are asked for, and for people if it is to be shown to them; and how it ended.
+pub fn replay(fd: i32, with_state: bool, shown: bool) -> Ended {
     let mut input = [0u8; INPUT];
     let mut line = [0u8; LONGER];
     let mut values = [0u64; VALUES];
     let mut bytes = [0u8; BYTES];
     let mut out = [0u8; OUT];
     let stream = answer(
-        Stream::new(fd, with_state),
+        Stream::new(fd, with_state, shown),
         &mut input,
         &mut line,
         &mut values,
         &mut bytes,
         &mut out,
     );
-    stream.finish(&out)
+    stream.finish(&mut out)
 }

@@ -1,4 +1,4 @@
-// replay [--state] [--status] [FILE]: writes what each call of a list answers, as docs/REPLAY.md says. Messages go to standard error. A
+// replay [--show] [--state] [--status] [FILE]: writes what each call of a list answers, as docs/REPLAY.md says. Messages go to standard error. A
 // program has no exit status: with --status it is written to descriptor 3, from which the script ./replay takes it.
 use libc::STDERR_FILENO;
 use libc::STDIN_FILENO;
@@ -11,12 +11,14 @@ const STATUS_FILENO: i32 = 3;
 struct Task {
     valid: bool,
     with_state: bool,
+    shown: bool,
     with_status: bool,
     file: usize,
 }
 
 enum Argument {
     State,
+    Show,
     Status,
     File,
     Unknown,
@@ -27,6 +29,9 @@ fn read_argument(i: usize) -> Argument {
     let n = os::arg(i, &mut word);
     if check::same(&word[..n], b"--state") {
         return Argument::State;
+    }
+    if check::same(&word[..n], b"--show") {
+        return Argument::Show;
     }
     if check::same(&word[..n], b"--status") {
         return Argument::Status;
@@ -45,6 +50,7 @@ impl Task {
         let mut next = self;
         match read_argument(i) {
             Argument::State => next.with_state = true,
+            Argument::Show => next.shown = true,
             Argument::Status => next.with_status = true,
             Argument::File => {
                 next.valid = self.file == 0 && self.valid;
@@ -60,6 +66,7 @@ fn read_task() -> Task {
     let mut task = Task {
         valid: true,
         with_state: false,
+        shown: false,
         with_status: false,
         file: 0,
     };
@@ -94,12 +101,19 @@ fn status(ended: Ended, about: &[u8]) -> u8 {
     b'0'
 }
 
+fn replay_input(with_state: bool, shown: bool) -> u8 {
+    status(
+        lists::replay(STDIN_FILENO, with_state, shown),
+        b"standard input",
+    )
+}
+
 // `file` is the number of its argument.
-fn replay_file(file: usize, with_state: bool) -> u8 {
+fn replay_file(file: usize, with_state: bool, shown: bool) -> u8 {
     let mut path = io::buffer();
     let n = os::arg(file, &mut path);
     if check::same(&path[..n], b"-") {
-        return status(lists::replay(STDIN_FILENO, with_state), b"standard input");
+        return replay_input(with_state, shown);
     }
     let fd = os::open_read(&path[..n]);
     if fd < 0 {
@@ -107,22 +121,19 @@ fn replay_file(file: usize, with_state: bool) -> u8 {
         os::fail(&path[..n]);
         return b'2';
     }
-    let ended = lists::replay(fd, with_state);
+    let ended = lists::replay(fd, with_state, shown);
     libc::close(fd);
     status(ended, &path[..n])
 }
 
 fn run(task: Task) -> u8 {
     if !task.valid {
-        return complain(b"usage: replay [--state] [FILE]", b"\n");
+        return complain(b"usage: replay [--show] [--state] [FILE]", b"\n");
     }
     if task.file == 0 {
-        return status(
-            lists::replay(STDIN_FILENO, task.with_state),
-            b"standard input",
-        );
+        return replay_input(task.with_state, task.shown);
     }
-    replay_file(task.file, task.with_state)
+    replay_file(task.file, task.with_state, task.shown)
 }
 
 fn main() {

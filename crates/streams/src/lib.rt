@@ -1,6 +1,9 @@
 // A list as it is read, line by line, and its answers as they are written out. What the lines say is the business of others.
 use libc::STDOUT_FILENO;
+use reading::call::Call;
 use reading::call::LINE;
+use reading::call::Sequence;
+use showing::Shown;
 use words::part;
 use writing::write;
 use writing::write::OUT;
@@ -14,11 +17,16 @@ pub const LONGER: usize = LINE + 1;
 // The output is written out once it is longer than this: no answer is longer than the rest.
 const NEARLY_FULL: usize = 98_304;
 
+// The same before a line of a list that is shown: it takes up to 79,000 bytes, folded, and the mark and the answer come behind it.
+const ROOM_FOR_LINE: usize = 16_384;
+
 // Where a list stands. Its input, the line that is read and the output are in buffers beside it.
 pub struct Stream {
     pub fd: i32,
     // whether the stored state stands behind each answer
     pub with_state: bool,
+    // whether and how it is shown to people
+    pub shown: Shown,
     // the number of the line, from 1
     pub number: u64,
     // the bytes of the input that are taken, and all of them
@@ -47,6 +55,34 @@ pub struct Ended {
     pub unread: bool,
     // output could not be written
     pub unwritten: bool,
+}
+
+fn least(a: usize, b: usize) -> usize {
+    if a < b {
+        return a;
+    }
+    b
+}
+
+// What a list that is shown goes by: the sequence that a call begins, or the reading of one that has a reading.
+fn shown_call(shown: Shown, call: Call) -> Shown {
+    match call {
+        Call::Begin(sequence) => shown.begun(number_of(sequence)),
+        Call::Feed(feed) => shown.read(feed.now),
+        Call::Check(now) => shown.read(now),
+        _ => shown,
+    }
+}
+
+fn number_of(sequence: Sequence) -> usize {
+    match sequence {
+        Sequence::Dsp => showing::tables::DSP,
+        Sequence::Avr(_) => showing::tables::AVR,
+        Sequence::Pi => showing::tables::PI,
+        Sequence::AvrConfig(_) => showing::tables::SETTINGS,
+        Sequence::Disarm => showing::tables::DISARM,
+        Sequence::Arm(_) => showing::tables::ARM,
+    }
 }
 
 // The next bytes of a line, up to its line feed or the end of the input.
@@ -83,10 +119,11 @@ fn gather(input: &[u8], from: usize, buffer: &mut [u8; LONGER], line: usize) -> 
 
 impl Stream {
     // A list before its first line.
-    pub fn new(fd: i32, with_state: bool) -> Stream {
+    pub fn new(fd: i32, with_state: bool, shown: bool) -> Stream {
         Stream {
             fd: fd,
             with_state: with_state,
+            shown: Shown::new(shown),
             number: 0,
             at: 0,
             end: 0,
@@ -178,31 +215,92 @@ impl Stream {
         0 < self.line
     }
 
-    // With the number of the line written, before its answer.
+    // With the line itself written, if the list is shown. Of a longer one than may be its first bytes are.
+    pub fn echoed(self, line: &[u8], out: &mut [u8; OUT]) -> Stream {
+        let shown = self.shown;
+        if !shown.on {
+            return self;
+        }
+        let mut next = self.flushed(out, ROOM_FOR_LINE);
+        next.out = showing::line(out, next.out, part(line, 0, least(line.len(), LINE)));
+        next
+    }
+
+    // With the number of the line written, before its answer. A list that is shown has the line there.
     pub fn numbered(self, out: &mut [u8; OUT]) -> Stream {
+        let shown = self.shown;
+        if shown.on {
+            return self;
+        }
         let mut next = self;
         let end = write::decimal(out, self.out, self.number);
         next.out = write::text(out, end, b": ");
         next
     }
 
-    // After a line that can't be read, and is answered so.
-    pub fn unread_line(self) -> Stream {
+    // After a line that can't be read from this place on. Below one that is shown the place is marked.
+    pub fn unread_line(self, line: &[u8], place: usize, out: &mut [u8; OUT]) -> Stream {
+        let shown = self.shown;
         let mut next = self;
         next.bad_line = true;
+        if shown.on {
+            let counted = shown.unread();
+            next.shown = counted;
+            next.out = showing::mark(out, self.out, line, place);
+        }
+        next
+    }
+
+    // Before the answer to a call.
+    pub fn called(self, call: Call) -> Stream {
+        let shown = self.shown;
+        if !shown.on {
+            return self;
+        }
+        let asked = shown_call(shown.called(), call);
+        let mut next = self;
+        next.shown = asked;
+        next
+    }
+
+    // With the answer that ends at `at` laid out.
+    fn laid_out(self, out: &mut [u8; OUT], at: usize) -> Stream {
+        let laid = showing::lay(self.shown, out, self.out, at);
+        let shown = laid.shown;
+        let mut next = self;
+        next.shown = shown;
+        next.out = laid.at;
         next
     }
 
     // After an answer that ends at `at`.
     pub fn answered(self, out: &mut [u8; OUT], at: usize) -> Stream {
+        let shown = self.shown;
+        if shown.on {
+            return self.laid_out(out, at).flushed(out, NEARLY_FULL);
+        }
         let mut next = self;
         next.out = write::byte(out, at, b'\n');
         next.flushed(out, NEARLY_FULL)
     }
 
+    // Sums up a list that is shown.
+    fn summed_up(self, out: &mut [u8; OUT]) -> Stream {
+        let shown = self.shown;
+        if !shown.on {
+            return self;
+        }
+        if self.unwritten {
+            return self;
+        }
+        let mut next = self.flushed(out, NEARLY_FULL);
+        next.out = showing::sum_up(shown, out, next.out);
+        next
+    }
+
     // Writes the rest of the output out, and answers how the list ended.
-    pub fn finish(self, out: &[u8; OUT]) -> Ended {
-        let last = self.flushed(out, 0);
+    pub fn finish(self, out: &mut [u8; OUT]) -> Ended {
+        let last = self.summed_up(out).flushed(out, 0);
         Ended {
             bad_line: last.bad_line,
             unread: last.unread,

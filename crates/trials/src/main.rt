@@ -8,6 +8,6 @@ fn main() {
         io::write_all(STDOUT_FILENO, b"trials.list can't be opened\n");
         return;
     }
-    lists::replay(fd, false);
+    lists::replay(fd, false, false);
     libc::close(fd);
 }

@@ -4,11 +4,11 @@ use Rattle.device_calls.proofs.next.next.Statement.{statement}
 use Rattle.device_calls.proofs.next.next.Tie as tie
 
 abbrev Inv-loop : tie.InvT-loop
-Inv-loop calls input₀ line₀ values₀ bytes₀ out₀ turn₀ turns₀ input line values bytes out turn turns = Unit {0}
+Inv-loop calls input₀ line₀ values₀ bytes₀ out₀ stream₀ turns₀ input line values bytes out stream turns = Unit {0}
 
 abbrev μ-loop : tie.MeasureT-loop
-μ-loop calls input₀ line₀ values₀ bytes₀ out₀ turn₀ turns₀ input line values bytes out turn turns = turns
+μ-loop calls input₀ line₀ values₀ bytes₀ out₀ stream₀ turns₀ input line values bytes out stream turns = turns
 
 pub next-spec : {M : Type 1} → statement M
 next-spec =
-    tie.close (tie.spec Inv-loop μ-loop (λ c κs. search needs) (λ c. search needs) (λ c κs. search needs) (λ c κs. search needs) (λ c κs. search needs) (λ c κs. search needs) (λ c. search needs) (λ c κs. search needs) (λ c κs. search needs) (λ c. search needs) (λ c. search needs) (λ c. search needs) (λ c. search needs) (λ c. search needs))
+    tie.close (tie.spec Inv-loop μ-loop (λ c. search needs) (λ c κs. search needs) (λ c κs. search needs) (λ c κs. search needs) (λ c. search needs) (λ c κs. search needs) (λ c κs. search needs) (λ c κs. search needs) (λ c. search needs) (λ c. search needs) (λ c. search needs) (λ c. search needs) (λ c. search needs))
