@@ -9,6 +9,7 @@ use crate::coverage::Coverage;
 use crate::front::Front;
 use crate::generate::{BadLines, Generator, LONG_ARM, Leaning};
 use crate::list::{self, Call, Which};
+use crate::show::Show;
 
 /// The lines after which a list ends, with its last sequence.
 pub const LIST_LINES: usize = 20_000;
@@ -107,6 +108,8 @@ impl Source {
 /// The program that is compared.
 pub struct Program {
     pub path: OsString,
+    /// Whether lists are shown to people.
+    pub shown: bool,
 }
 
 /// The first line in which two outputs differ. An absent line is `None`.
@@ -126,6 +129,7 @@ impl Program {
         };
         let mut child = Command::new(&self.path)
             .arg("--state")
+            .args(self.shown.then_some("--show"))
             .stdin(Stdio::piped())
             .stdout(Stdio::piped())
             .stderr(stderr)
@@ -146,12 +150,20 @@ impl Program {
     /// Compares the answers to a list with those of the front end.
     pub fn difference(&self, list: &List) -> io::Result<Option<Difference>> {
         let answers = self.answers(&list.lines, false)?;
+        if self.shown {
+            return Ok(difference(&shown(&list.lines), &answers));
+        }
         Ok(difference(&list.answers, &answers))
     }
 
     fn difference_of(&self, lines: &[String]) -> io::Result<Option<Difference>> {
         let answers = self.answers(lines, true)?;
-        Ok(difference(&front_answers(lines), &answers))
+        let front = if self.shown {
+            shown(lines)
+        } else {
+            front_answers(lines)
+        };
+        Ok(difference(&front, &answers))
     }
 
     /// The smallest list found that still shows a difference.
@@ -190,6 +202,16 @@ pub fn front_answers(lines: &[String]) -> String {
         let _ = front.line(line.as_bytes(), &mut answers);
     }
     answers
+}
+
+/// The lines, shown to people.
+fn shown(lines: &[String]) -> String {
+    let (mut show, mut out) = (Show::new(true), Vec::new());
+    for line in lines {
+        show.line(line.as_bytes(), &mut out);
+    }
+    show.finish(&mut out);
+    String::from_utf8_lossy(&out).into_owned()
 }
 
 fn difference(front: &str, program: &str) -> Option<Difference> {

@@ -38,7 +38,11 @@ impl Front {
     /// Writes the answer to a line, with a line feed; nothing to a comment.
     pub fn line(&mut self, line: &[u8], out: &mut String) -> Result<Option<Call>, Bad> {
         self.number += 1;
-        let line = if self.number == 1 { without_mark(line) } else { line };
+        let line = if self.number == 1 {
+            without_mark(line)
+        } else {
+            line
+        };
         let read = list::read(line, self.running.as_ref().map(|running| running.which()));
         if matches!(read, Ok(None)) {
             return read;
@@ -96,7 +100,7 @@ impl Front {
 }
 
 /// A byte order mark before the first line is taken as nothing.
-fn without_mark(line: &[u8]) -> &[u8] {
+pub fn without_mark(line: &[u8]) -> &[u8] {
     line.strip_prefix(b"\xEF\xBB\xBF").unwrap_or(line)
 }
 

@@ -1,5 +1,6 @@
-//! compare N [SEED] --replay PATH [--only SEQUENCE] [--bad]: runs N calls of
-//! each sequence and model through the Rust and through the program at PATH.
+//! compare N [SEED] --replay PATH [--only SEQUENCE] [--bad] [--show]: runs N
+//! calls of each sequence and model through the Rust and through the program
+//! at PATH; with --show both show the lists to people.
 
 use std::io;
 use std::process::ExitCode;
@@ -10,7 +11,7 @@ use oracle::coverage::Coverage;
 use oracle::generate::{LEANINGS, Leaning};
 use oracle::list::Which;
 
-const USAGE: &str = "usage: compare N [SEED] --replay PATH [--only SEQUENCE] [--bad]
+const USAGE: &str = "usage: compare N [SEED] --replay PATH [--only SEQUENCE] [--bad] [--show]
 SEQUENCE: dsp, avr, pi, avr_config, disarm or arm";
 
 /// The lines that are shown of a list with a difference.
@@ -61,7 +62,8 @@ fn main() -> ExitCode {
 }
 
 fn task() -> Option<Task> {
-    let (mut numbers, mut path, mut bad) = (Vec::new(), None, false);
+    let (mut numbers, mut path) = (Vec::new(), None);
+    let (mut bad, mut shown) = (false, false);
     let mut of = Which::ALL.to_vec();
     let mut args = std::env::args_os().skip(1);
     while let Some(arg) = args.next() {
@@ -69,6 +71,7 @@ fn task() -> Option<Task> {
             "--replay" => path = Some(args.next()?),
             "--only" => of = vec![Which::of_word(args.next()?.to_str()?)?],
             "--bad" => bad = true,
+            "--show" => shown = true,
             number => numbers.push(number.parse().ok()?),
         }
     }
@@ -82,7 +85,7 @@ fn task() -> Option<Task> {
         seed,
         bad,
         of,
-        program: Program { path: path? },
+        program: Program { path: path?, shown },
     })
 }
 

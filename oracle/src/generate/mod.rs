@@ -19,7 +19,7 @@ mod settings;
 pub use bad::BadLines;
 use caller::Caller;
 use long_arm::LongArm;
-use random::Random;
+pub use random::Random;
 
 use crate::list::Which;
 use crate::protocol::handshake::DeviceModel;
