@@ -10,30 +10,21 @@ use writing::send;
 use writing::write;
 use writing::write::OUT;
 
-fn number_of(step: ArmStep) -> usize {
-    match step {
-        ArmStep::WaitDspStatus => 0,
-        ArmStep::WaitAvrStatus => 1,
-        ArmStep::WaitArmAck => 2,
-        ArmStep::WaitPiAndArmed {
-            got_pi: _,
-            got_armed: _,
-        } => 3,
-        ArmStep::Done => 4,
-    }
-}
-
 fn gathered(out: &mut [u8; OUT], at: usize, got_pi: bool, got_armed: bool) -> usize {
     let end = fields::flagged(out, at, b"got_pi", got_pi);
     fields::flagged(out, end, b"got_armed", got_armed)
 }
 
 fn name(out: &mut [u8; OUT], at: usize, step: ArmStep) -> usize {
-    let names = b"WaitDspStatus WaitAvrStatus WaitArmAck WaitPiAndArmed Done";
-    let end = write::choice(out, at, number_of(step), names, b' ');
     match step {
-        ArmStep::WaitPiAndArmed { got_pi, got_armed } => gathered(out, end, got_pi, got_armed),
-        _ => end,
+        ArmStep::WaitDspStatus => write::text(out, at, b"WaitDspStatus"),
+        ArmStep::WaitAvrStatus => write::text(out, at, b"WaitAvrStatus"),
+        ArmStep::WaitArmAck => write::text(out, at, b"WaitArmAck"),
+        ArmStep::WaitPiAndArmed { got_pi, got_armed } => {
+            let end = write::text(out, at, b"WaitPiAndArmed");
+            gathered(out, end, got_pi, got_armed)
+        }
+        ArmStep::Done => write::text(out, at, b"Done"),
     }
 }
 

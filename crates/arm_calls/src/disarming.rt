@@ -18,8 +18,12 @@ fn number_of(step: DisarmStep) -> usize {
 }
 
 fn name(out: &mut [u8; OUT], at: usize, step: DisarmStep) -> usize {
-    let names = b"WaitAck WaitModeReset WaitStateIdle Done";
-    write::choice(out, at, number_of(step), names, b' ')
+    match step {
+        DisarmStep::WaitAck => write::text(out, at, b"WaitAck"),
+        DisarmStep::WaitModeReset => write::text(out, at, b"WaitModeReset"),
+        DisarmStep::WaitStateIdle => write::text(out, at, b"WaitStateIdle"),
+        DisarmStep::Done => write::text(out, at, b"Done"),
+    }
 }
 
 pub fn begin(out: &mut [u8; OUT], at: usize) -> Answered {

@@ -8,10 +8,10 @@ use device::model::DeviceModel;
 use device_calls::next::Turn;
 use device_calls::next::next;
 use protocol::refusal::Outcome;
-use reading::bytes::BYTES;
 use reading::call::Call;
 use reading::call::Calls;
 use reading::call::Feed;
+use scanning::bytes::BYTES;
 use streams::INPUT;
 use streams::LONGER;
 use streams::Stream;
@@ -54,10 +54,21 @@ fn number_of(step: AvrStep) -> usize {
 }
 
 fn name(out: &mut [u8; OUT], at: usize, step: AvrStep) -> usize {
-    let names =
-        b"WaitStatus1 WaitStatus2 WaitDevInfo1 WaitDevInfo2 WaitParam0C WaitParam0D WaitConfig WaitFactoryCal WaitIfCal \
-        WaitAvrConfig WaitParam64 WaitTimeSync Done";
-    write::choice(out, at, number_of(step), names, b' ')
+    match step {
+        AvrStep::WaitStatus1 => write::text(out, at, b"WaitStatus1"),
+        AvrStep::WaitStatus2 => write::text(out, at, b"WaitStatus2"),
+        AvrStep::WaitDevInfo1 => write::text(out, at, b"WaitDevInfo1"),
+        AvrStep::WaitDevInfo2 => write::text(out, at, b"WaitDevInfo2"),
+        AvrStep::WaitParam0C => write::text(out, at, b"WaitParam0C"),
+        AvrStep::WaitParam0D => write::text(out, at, b"WaitParam0D"),
+        AvrStep::WaitConfig => write::text(out, at, b"WaitConfig"),
+        AvrStep::WaitFactoryCal => write::text(out, at, b"WaitFactoryCal"),
+        AvrStep::WaitIfCal => write::text(out, at, b"WaitIfCal"),
+        AvrStep::WaitAvrConfig => write::text(out, at, b"WaitAvrConfig"),
+        AvrStep::WaitParam64 => write::text(out, at, b"WaitParam64"),
+        AvrStep::WaitTimeSync => write::text(out, at, b"WaitTimeSync"),
+        AvrStep::Done => write::text(out, at, b"Done"),
+    }
 }
 
 fn step_of(avr: AvrSequencer) -> AvrStep {

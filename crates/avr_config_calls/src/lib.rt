@@ -7,11 +7,11 @@ use avr_config::AvrConfigSequencer;
 use avr_config::AvrConfigStep;
 use device_calls::next::Turn;
 use device_calls::next::next;
-use reading::bytes::BYTES;
 use reading::call::Call;
 use reading::call::Calls;
 use reading::call::Feed;
 use reading::settings::Settings;
+use scanning::bytes::BYTES;
 use streams::INPUT;
 use streams::LONGER;
 use streams::Stream;
@@ -37,19 +37,6 @@ const FIRST: usize = 0;
 struct Answered {
     run: AvrConfigSequencer,
     at: usize,
-}
-
-fn number_of(step: AvrConfigStep) -> usize {
-    match step {
-        AvrConfigStep::WaitInitGateAck => 0,
-        AvrConfigStep::WaitParamAck { param_idx: _ } => 1,
-        AvrConfigStep::WaitParamCommitAck { param_idx: _ } => 2,
-        AvrConfigStep::WaitModeEcho => 3,
-        AvrConfigStep::WaitModeCommitAck => 4,
-        AvrConfigStep::WaitRadarCalEcho => 5,
-        AvrConfigStep::WaitRadarCalCommitAck => 6,
-        AvrConfigStep::Done => 7,
-    }
 }
 
 // Twice a number of parameters, which are few, and something more.
@@ -82,14 +69,21 @@ fn index(out: &mut [u8; OUT], at: usize, param_idx: usize) -> usize {
 }
 
 fn name(out: &mut [u8; OUT], at: usize, step: AvrConfigStep) -> usize {
-    let names =
-        b"WaitInitGateAck WaitParamAck WaitParamCommitAck WaitModeEcho WaitModeCommitAck WaitRadarCalEcho \
-        WaitRadarCalCommitAck Done";
-    let end = write::choice(out, at, number_of(step), names, b' ');
     match step {
-        AvrConfigStep::WaitParamAck { param_idx } => index(out, end, param_idx),
-        AvrConfigStep::WaitParamCommitAck { param_idx } => index(out, end, param_idx),
-        _ => end,
+        AvrConfigStep::WaitInitGateAck => write::text(out, at, b"WaitInitGateAck"),
+        AvrConfigStep::WaitParamAck { param_idx } => {
+            let end = write::text(out, at, b"WaitParamAck");
+            index(out, end, param_idx)
+        }
+        AvrConfigStep::WaitParamCommitAck { param_idx } => {
+            let end = write::text(out, at, b"WaitParamCommitAck");
+            index(out, end, param_idx)
+        }
+        AvrConfigStep::WaitModeEcho => write::text(out, at, b"WaitModeEcho"),
+        AvrConfigStep::WaitModeCommitAck => write::text(out, at, b"WaitModeCommitAck"),
+        AvrConfigStep::WaitRadarCalEcho => write::text(out, at, b"WaitRadarCalEcho"),
+        AvrConfigStep::WaitRadarCalCommitAck => write::text(out, at, b"WaitRadarCalCommitAck"),
+        AvrConfigStep::Done => write::text(out, at, b"Done"),
     }
 }
 

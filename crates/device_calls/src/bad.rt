@@ -1,7 +1,7 @@
 // The answer to a line that can't be read.
 use reading::cursor::Cursor;
-use reading::reasons::EXPECTED;
-use reading::reasons::REASONS;
+use scanning::reasons::EXPECTED;
+use scanning::reasons::REASONS;
 use words::behind;
 use words::kinds::KINDS;
 use words::part;

@@ -1,11 +1,11 @@
 // The next call of a list that a sequence answers.
 use crate::answer;
 use crate::bad;
-use reading::bytes::BYTES;
 use reading::call::Call;
 use reading::call::Calls;
 use reading::call::is_comment;
 use reading::call::read_line;
+use scanning::bytes::BYTES;
 use streams::INPUT;
 use streams::LONGER;
 use streams::Stream;
@@ -87,9 +87,9 @@ fn call_of(
     outside(numbered.called(call), call, bytes, out)
 }
 
-// The line that was read. A byte order mark before the first one is taken as nothing.
-fn line_of(line: &[u8], stream: Stream) -> &[u8] {
-    let whole = part(line, 0, stream.line);
+// The line that was read, and begins at `from`. A byte order mark before the first one is taken as nothing.
+fn line_of(bytes: &[u8], from: usize, stream: Stream) -> &[u8] {
+    let whole = part(bytes, from, std::num::wrapping_add_usize(from, stream.line));
     if stream.number != 1 {
         return whole;
     }
@@ -117,7 +117,18 @@ pub fn next(
         if !stream.has_line() {
             return Turn::without_call(stream);
         }
-        let turn = call_of(stream, line_of(line, stream), calls, values, bytes, out);
+        let turn = if stream.inside {
+            call_of(
+                stream,
+                line_of(input, stream.from, stream),
+                calls,
+                values,
+                bytes,
+                out,
+            )
+        } else {
+            call_of(stream, line_of(line, 0, stream), calls, values, bytes, out)
+        };
         if !turn.ends() {
             return turn;
         }

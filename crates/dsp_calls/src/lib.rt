@@ -7,10 +7,10 @@ use dsp::DspFed;
 use dsp::DspSequencer;
 use dsp_steps::DspStep;
 use protocol::refusal::Outcome;
-use reading::bytes::BYTES;
 use reading::call::Call;
 use reading::call::Calls;
 use reading::call::Feed;
+use scanning::bytes::BYTES;
 use streams::INPUT;
 use streams::LONGER;
 use streams::Stream;
@@ -49,9 +49,17 @@ fn number_of(step: DspStep) -> usize {
 }
 
 fn name(out: &mut [u8; OUT], at: usize, step: DspStep) -> usize {
-    let names =
-        b"WaitStatus WaitDspQuery WaitDevInfo WaitProdInfo0 WaitProdInfo1 WaitProdInfo2 WaitConfig WaitPowerMode Done";
-    write::choice(out, at, number_of(step), names, b' ')
+    match step {
+        DspStep::WaitStatus => write::text(out, at, b"WaitStatus"),
+        DspStep::WaitDspQuery => write::text(out, at, b"WaitDspQuery"),
+        DspStep::WaitDevInfo => write::text(out, at, b"WaitDevInfo"),
+        DspStep::WaitProdInfo0 => write::text(out, at, b"WaitProdInfo0"),
+        DspStep::WaitProdInfo1 => write::text(out, at, b"WaitProdInfo1"),
+        DspStep::WaitProdInfo2 => write::text(out, at, b"WaitProdInfo2"),
+        DspStep::WaitConfig => write::text(out, at, b"WaitConfig"),
+        DspStep::WaitPowerMode => write::text(out, at, b"WaitPowerMode"),
+        DspStep::Done => write::text(out, at, b"Done"),
+    }
 }
 
 fn step_of(dsp: DspSequencer) -> DspStep {

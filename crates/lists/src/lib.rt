@@ -2,10 +2,10 @@
 // lines over it.
 use device_calls::next::Turn;
 use device_calls::next::next;
-use reading::bytes::BYTES;
 use reading::call::Call;
 use reading::call::NO_CALLS;
 use reading::call::Sequence;
+use scanning::bytes::BYTES;
 use streams::Ended;
 use streams::INPUT;
 use streams::LONGER;

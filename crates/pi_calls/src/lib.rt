@@ -8,10 +8,10 @@ use pi::PiFed;
 use pi::PiSequencer;
 use pi::PiStep;
 use protocol::refusal::Outcome;
-use reading::bytes::BYTES;
 use reading::call::Call;
 use reading::call::Calls;
 use reading::call::Feed;
+use scanning::bytes::BYTES;
 use streams::INPUT;
 use streams::LONGER;
 use streams::Stream;
@@ -60,12 +60,19 @@ fn entry_of(step: PiStep) -> usize {
 }
 
 fn name(out: &mut [u8; OUT], at: usize, step: PiStep) -> usize {
-    let names =
-        b"WaitStatus WaitDevInfo WaitParam0A WaitCamConfig1 WaitCamConfig2 WaitNetConfig WaitNetConfigPw WaitParams Done";
-    let end = write::choice(out, at, number_of(step), names, b' ');
     match step {
-        PiStep::WaitParams { idx } => fields::number(out, end, b"idx", idx as u64),
-        _ => end,
+        PiStep::WaitStatus => write::text(out, at, b"WaitStatus"),
+        PiStep::WaitDevInfo => write::text(out, at, b"WaitDevInfo"),
+        PiStep::WaitParam0A => write::text(out, at, b"WaitParam0A"),
+        PiStep::WaitCamConfig1 => write::text(out, at, b"WaitCamConfig1"),
+        PiStep::WaitCamConfig2 => write::text(out, at, b"WaitCamConfig2"),
+        PiStep::WaitNetConfig => write::text(out, at, b"WaitNetConfig"),
+        PiStep::WaitNetConfigPw => write::text(out, at, b"WaitNetConfigPw"),
+        PiStep::WaitParams { idx } => {
+            let end = write::text(out, at, b"WaitParams");
+            fields::number(out, end, b"idx", idx as u64)
+        }
+        PiStep::Done => write::text(out, at, b"Done"),
     }
 }
 

@@ -1,12 +1,12 @@
 // The call that a line makes.
-use crate::bytes::BYTES;
 use crate::cursor::Cursor;
 use crate::cursor::Span;
 use crate::cursor::choice;
-use crate::reasons;
 use crate::settings::Settings;
 use device::model::DeviceModel;
 use protocol::addr::BusAddr;
+use scanning::bytes::BYTES;
+use scanning::reasons;
 use words::MODELS;
 use words::SOURCES;
 use words::byte_at;

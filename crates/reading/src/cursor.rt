@@ -1,5 +1,10 @@
 // A place in a line, and the words that begin there.
-use crate::reasons;
+use scanning::ends;
+use scanning::named;
+use scanning::past_blanks;
+use scanning::past_word;
+use scanning::reasons;
+use scanning::starts;
 use words::behind;
 use words::part;
 
@@ -13,49 +18,36 @@ pub struct Cursor {
     pub why: usize,
 }
 
+// The cursor behind a name, and the place behind it in the names.
+pub struct Named {
+    pub c: Cursor,
+    pub form: usize,
+}
+
 // A word, or the value of a field.
 pub struct Span {
     pub from: usize,
     pub to: usize,
 }
 
-fn is_blank(b: u8) -> bool {
-    if b == b' ' {
-        return true;
+// Whether the span is the name that begins at a place of the names, and ends at a blank.
+pub fn is_name(line: &[u8], span: Span, names: &[u8], from: usize) -> bool {
+    let word = part(line, span.from, span.to);
+    if !ends(names, std::num::wrapping_add_usize(from, word.len())) {
+        return false;
     }
-    b == b'\t'
-}
-
-// Past the blanks that stand at `at`, or past what is no blank.
-pub fn skip(line: &[u8], at: usize, blanks: bool) -> usize {
-    let mut i = at;
-    while i < line.len() {
-        if is_blank(line[i]) != blanks {
-            return i;
-        }
-        i += 1;
-    }
-    i
-}
-
-// Whether the bytes at a place begin with these.
-pub fn starts(line: &[u8], at: usize, with: &[u8]) -> bool {
-    check::same(
-        part(line, at, std::num::wrapping_add_usize(at, with.len())),
-        with,
-    )
+    starts(names, from, word)
 }
 
 // Which of the names the span is, from 0; their number where it is none. A name ends at a blank, and the next begins behind `b`.
 pub fn choice(line: &[u8], span: Span, names: &[u8], b: u8) -> usize {
-    let word = part(line, span.from, span.to);
     let mut k = 0;
     let mut at = 0;
     while k < NAMES {
         if names.len() <= at {
             return k;
         }
-        if check::same(part(names, at, skip(names, at, false)), word) {
+        if is_name(line, span, names, at) {
             return k;
         }
         at = behind(names, at, b);
@@ -82,10 +74,10 @@ impl Cursor {
 
     // The next word, which is empty at the end.
     pub fn word(self, line: &[u8]) -> Span {
-        let from = skip(line, self.at, true);
+        let from = past_blanks(line, self.at);
         Span {
             from: from,
-            to: skip(line, from, false),
+            to: past_word(line, from),
         }
     }
 
@@ -93,13 +85,13 @@ impl Cursor {
     pub fn value(self, line: &[u8]) -> Span {
         Span {
             from: self.at,
-            to: skip(line, self.at, false),
+            to: past_word(line, self.at),
         }
     }
 
     // Whether these bytes stand next.
     pub fn next_is(self, line: &[u8], name: &[u8]) -> bool {
-        starts(line, skip(line, self.at, true), name)
+        starts(line, past_blanks(line, self.at), name)
     }
 
     // Whether these bytes, of a field that may be left out, stand next.
@@ -112,21 +104,26 @@ impl Cursor {
 
     // Behind these bytes, which stand next.
     pub fn past(self, line: &[u8], name: &[u8]) -> Cursor {
-        let at = skip(line, self.at, true);
+        let at = past_blanks(line, self.at);
         self.to(std::num::wrapping_add_usize(at, name.len()))
     }
 
-    // Moves past the `NAME=` that stands at `from` of the names, and has to stand next.
-    pub fn name(self, line: &[u8], names: &[u8], from: usize) -> Cursor {
-        if self.bad() {
-            return self;
+    // Moves past the `NAME=` that stands at `from` of the names, and has to stand next. What is behind it there is answered too.
+    pub fn name(self, line: &[u8], names: &[u8], from: usize) -> Named {
+        let at = past_blanks(line, self.at);
+        let form = named(line, at, names, from, b'=');
+        if form == 0 {
+            let why = std::num::wrapping_add_usize(reasons::EXPECTED, from);
+            return Named {
+                c: self.fail(at, why),
+                form: form,
+            };
         }
-        let name = part(names, from, behind(names, from, b'='));
-        let at = skip(line, self.at, true);
-        if starts(line, at, name) {
-            return self.to(std::num::wrapping_add_usize(at, name.len()));
+        let passed = std::num::wrapping_sub_usize(form, from);
+        Named {
+            c: self.to(std::num::wrapping_add_usize(at, passed)),
+            form: form,
         }
-        self.fail(at, std::num::wrapping_add_usize(reasons::EXPECTED, from))
     }
 
     // Nothing but blanks may be left.
@@ -134,7 +131,7 @@ impl Cursor {
         if self.bad() {
             return self;
         }
-        let at = skip(line, self.at, true);
+        let at = past_blanks(line, self.at);
         if at < line.len() {
             return self.fail(at, reasons::NO_END);
         }

@@ -1,15 +1,13 @@
 // The fields of a kind, read by its layout: `NAME=TYPE` for each field, with a blank behind it, and a semicolon at the end.
 use crate::cursor::Cursor;
-use crate::cursor::skip;
 use crate::number::Limit;
 use crate::number::Number;
-use crate::reasons;
+use scanning::reasons;
 use words::behind;
 use words::byte_at;
-use words::find;
 use words::kinds::NUMBERS;
 use words::kinds::VALUES;
-use words::place;
+use words::kinds::place_of;
 
 // The limits of `u8`, `u16`, `u32`, `i16` and `i32`, by their first two letters.
 fn limit_of(kind: u8, size: u8) -> Limit {
@@ -32,23 +30,19 @@ fn limit_of(kind: u8, size: u8) -> Limit {
 
 // Where the fields of a kind begin.
 pub fn fields_of(kinds: &[u8], kind: usize) -> usize {
-    behind(kinds, place(kinds, kind, b';'), b' ')
+    behind(kinds, place_of(kind), b' ')
 }
 
 impl Cursor {
     // The value of a field whose type stands at `at` of the kinds.
     fn field(self, line: &[u8], kinds: &[u8], at: usize) -> Number {
-        if self.bad() {
-            return Number { c: self, value: 0 };
-        }
         let kind = byte_at(kinds, at);
         match kind {
             b'b' => self.boolean(line),
             b'f' => self.float(line),
             _ => {
                 let size = byte_at(kinds, std::num::wrapping_add_usize(at, 1));
-                let to = skip(line, self.at, false);
-                self.number_here(line, to, limit_of(kind, size))
+                self.number_here(line, limit_of(kind, size))
             }
         }
     }
@@ -69,10 +63,17 @@ impl Cursor {
             if byte_at(kinds, at) == b';' {
                 return c;
             }
-            c = c.name(line, kinds, at);
-            let form = behind(kinds, at, b'=');
+            let named = c.name(line, kinds, at);
+            c = named.c;
+            if c.bad() {
+                return c;
+            }
+            let form = named.form;
             let read = c.field(line, kinds, form);
             c = read.c;
+            if c.bad() {
+                return c;
+            }
             values[k] = read.value;
             at = behind(kinds, form, b' ');
             k += 1;
@@ -80,35 +81,24 @@ impl Cursor {
         c
     }
 
-    // Where the number that stands here ends: at a comma or a blank.
-    fn number_end(self, line: &[u8]) -> usize {
-        let comma = find(line, self.at, b',');
-        let end = skip(line, self.at, false);
-        if comma < end {
-            return comma;
-        }
-        end
-    }
-
     // 34 numbers with commas between them.
     pub fn listed(self, line: &[u8], values: &mut [u64; VALUES]) -> Cursor {
         let mut c = self;
         let mut k = 0;
         while k < NUMBERS {
-            let to = c.number_end(line);
-            let read = c.number_here(line, to, limit_of(b'i', b'1'));
+            let read = c.number_listed(line, limit_of(b'i', b'1'));
             c = read.c;
             values[k] = read.value;
             if c.bad() {
                 return c;
             }
             k += 1;
-            let more = byte_at(line, to) == b',';
+            let more = byte_at(line, c.at) == b',';
             if more != (k < NUMBERS) {
                 return c.fail(self.at, reasons::NOT_34);
             }
             if more {
-                c = c.to(std::num::wrapping_add_usize(to, 1));
+                c = c.to(std::num::wrapping_add_usize(c.at, 1));
             }
         }
         c

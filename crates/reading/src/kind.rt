@@ -1,16 +1,30 @@
 // The kinds of a message, and their fields.
-use crate::bytes::BYTES;
 use crate::cursor::Cursor;
-use crate::cursor::choice;
+use crate::cursor::Span;
+use crate::cursor::is_name;
 use crate::fields::fields_of;
-use crate::reasons;
+use scanning::bytes::BYTES;
+use scanning::reasons;
 use words::kinds;
 use words::kinds::VALUES;
+use words::kinds::place_of;
 
 // The number of a kind, and the cursor behind it, or behind its name.
 pub struct Kind {
     pub c: Cursor,
     pub kind: usize,
+}
+
+// The number of the kind that the span names, from `least` on; how many there are where it is none.
+fn kind_of(line: &[u8], span: Span, kinds: &[u8], least: usize) -> usize {
+    let mut k = least;
+    while k < kinds::COUNT {
+        if is_name(line, span, kinds, place_of(k)) {
+            return k;
+        }
+        k += 1;
+    }
+    k
 }
 
 impl Cursor {
@@ -24,8 +38,8 @@ impl Cursor {
     // The name of a kind whose number is in this range.
     fn kind_name(self, line: &[u8], kinds: &[u8], least: usize, most: usize) -> Kind {
         let word = self.word(line);
-        let kind = choice(line, word, kinds, b';');
-        if kind < least || most < kind {
+        let kind = kind_of(line, word, kinds, least);
+        if most < kind {
             return self.fail(word.from, reasons::UNKNOWN_KIND)
                 .with_kind(kinds::OTHER);
         }
@@ -48,7 +62,11 @@ impl Cursor {
 
     // The two bytes of `tail`. No sequence looks at them.
     fn tail(self, line: &[u8], kinds: &[u8], bytes: &mut [u8; BYTES]) -> Cursor {
-        let c = self.name(line, kinds, fields_of(kinds, kinds::TAIL));
+        if self.bad() {
+            return self;
+        }
+        let named = self.name(line, kinds, fields_of(kinds, kinds::TAIL));
+        let c = named.c;
         if c.bad() {
             return c;
         }
@@ -79,7 +97,8 @@ impl Cursor {
     }
 
     fn params(self, line: &[u8], kinds: &[u8], values: &mut [u64; VALUES]) -> Cursor {
-        let c = self.name(line, kinds, fields_of(kinds, kinds::CONFIG_RESP));
+        let named = self.name(line, kinds, fields_of(kinds, kinds::CONFIG_RESP));
+        let c = named.c;
         if c.bad() {
             return c;
         }

@@ -1,19 +1,14 @@
 // Numbers, bools and floats. Each is a `u64`: a negative number by its two's complement, a bool as 0 or 1, a float by its bits.
 use crate::cursor::Cursor;
-use crate::cursor::Span;
 use crate::cursor::choice;
-use crate::cursor::starts;
-use crate::reasons;
+use scanning::ends;
+use scanning::number::Digits;
+use scanning::number::decimal;
+use scanning::number::hexadecimal;
+use scanning::past_blanks;
+use scanning::reasons;
+use scanning::starts;
 use words::byte_at;
-use words::part;
-
-// What digits write.
-struct Written {
-    valid: bool,
-    // more than 64 bits
-    large: bool,
-    value: u64,
-}
 
 // The largest value of a field; the smallest is 0, or one below its negative.
 pub struct Limit {
@@ -34,74 +29,7 @@ fn unsigned(most: u64) -> Limit {
     }
 }
 
-// A digit's value, or 16 where it is none.
-pub fn digit(b: u8) -> u8 {
-    match b {
-        b'0'..=b'9' => b - b'0',
-        b'A'..=b'F' => b - b'A' + 10,
-        b'a'..=b'f' => b - b'a' + 10,
-        _ => 16,
-    }
-}
-
-impl Written {
-    fn ten(self, digit: u8) -> Written {
-        let mut next = self;
-        if 9 < digit {
-            next.valid = false;
-            return next;
-        }
-        let last = digit as u64;
-        // 2^64 - 1 is 18,446,744,073,709,551,615
-        let limit = 1_844_674_407_370_955_161;
-        let value = self.value;
-        if value < limit {
-            next.value = value * 10 + last;
-            return next;
-        }
-        if value == limit {
-            if last <= 5 {
-                next.value = value * 10 + last;
-                return next;
-            }
-        }
-        next.large = true;
-        next
-    }
-
-    fn sixteen(self, digit: u8) -> Written {
-        let mut next = self;
-        if 15 < digit {
-            next.valid = false;
-            return next;
-        }
-        let last = digit as u64;
-        let value = self.value;
-        if value < 0x1000_0000_0000_0000 {
-            next.value = value * 16 + last;
-            return next;
-        }
-        next.large = true;
-        next
-    }
-}
-
-fn digits(s: &[u8], hex: bool) -> Written {
-    let mut d = Written {
-        valid: 0 < s.len(),
-        large: false,
-        value: 0,
-    };
-    let mut i = 0;
-    while i < s.len() {
-        let n = digit(s[i]);
-        d = if hex { d.sixteen(n) } else { d.ten(n) };
-        i += 1;
-    }
-    d
-}
-
-fn in_range(d: Written, negative: bool, most: u64) -> bool {
+fn in_range(d: Digits, negative: bool, most: u64) -> bool {
     if d.large {
         return false;
     }
@@ -118,38 +46,48 @@ fn is_negative(line: &[u8], at: usize, signed: bool) -> bool {
     false
 }
 
-fn magnitude(line: &[u8], span: Span, negative: bool) -> Written {
-    let from = span.from;
+// A number without its sign.
+fn magnitude(line: &[u8], at: usize, negative: bool) -> Digits {
     if negative {
-        return digits(
-            part(line, std::num::wrapping_add_usize(from, 1), span.to),
-            false,
-        );
+        return decimal(line, std::num::wrapping_add_usize(at, 1));
     }
-    if starts(line, from, b"0x") {
-        return digits(
-            part(line, std::num::wrapping_add_usize(from, 2), span.to),
-            true,
-        );
+    if starts(line, at, b"0x") {
+        return hexadecimal(line, std::num::wrapping_add_usize(at, 2));
     }
-    digits(part(line, from, span.to), false)
+    decimal(line, at)
+}
+
+fn signed(value: u64, negative: bool) -> u64 {
+    if negative {
+        return std::num::wrapping_sub_u64(0, value);
+    }
+    value
+}
+
+// Whether a number ends at a place. One of a list may end at a comma.
+fn number_ends(line: &[u8], at: usize, in_list: bool) -> bool {
+    if in_list {
+        if byte_at(line, at) == b',' {
+            return true;
+        }
+    }
+    ends(line, at)
 }
 
 impl Cursor {
-    fn number_in(self, line: &[u8], span: Span, limit: Limit) -> Number {
-        let negative = is_negative(line, span.from, limit.signed);
-        let d = magnitude(line, span, negative);
-        let mut c = self.to(span.to);
-        if !d.valid {
-            c = self.fail(span.from, reasons::NOT_A_NUMBER);
+    fn number_from(self, line: &[u8], from: usize, limit: Limit, in_list: bool) -> Number {
+        let negative = is_negative(line, from, limit.signed);
+        let d = magnitude(line, from, negative);
+        let mut c = self.to(d.to);
+        if !(d.some && number_ends(line, d.to, in_list)) {
+            c = self.fail(from, reasons::NOT_A_NUMBER);
         } else if !in_range(d, negative, limit.most) {
-            c = self.fail(span.from, reasons::OUT_OF_RANGE);
+            c = self.fail(from, reasons::OUT_OF_RANGE);
         }
-        let mut value = d.value;
-        if negative {
-            value = std::num::wrapping_sub_u64(0, value);
+        Number {
+            c: c,
+            value: signed(d.value, negative),
         }
-        Number { c: c, value: value }
     }
 
     // A word that is a number.
@@ -157,23 +95,23 @@ impl Cursor {
         if self.bad() {
             return Number { c: self, value: 0 };
         }
-        self.number_in(line, self.word(line), unsigned(most))
+        self.number_from(line, past_blanks(line, self.at), unsigned(most), false)
     }
 
     // A number that begins here.
-    pub fn number_here(self, line: &[u8], to: usize, limit: Limit) -> Number {
-        let span = Span {
-            from: self.at,
-            to: to,
-        };
-        self.number_in(line, span, limit)
+    pub fn number_here(self, line: &[u8], limit: Limit) -> Number {
+        self.number_from(line, self.at, limit, false)
+    }
+
+    // A number of a list that begins here.
+    pub fn number_listed(self, line: &[u8], limit: Limit) -> Number {
+        self.number_from(line, self.at, limit, true)
     }
 
     // The number of a field that may be left out, which is 0 then.
     pub fn given(self, line: &[u8], name: &[u8]) -> Number {
         if self.has(line, name) {
-            let c = self.past(line, name);
-            return c.number_in(line, c.value(line), unsigned(u64::MAX));
+            return self.past(line, name).number_here(line, unsigned(u64::MAX));
         }
         Number { c: self, value: 0 }
     }
@@ -194,13 +132,13 @@ impl Cursor {
     }
 
     pub fn float(self, line: &[u8]) -> Number {
-        let span = self.value(line);
-        let d = magnitude(line, span, false);
-        let mut c = self.to(span.to);
-        if !is_float(line, span, d.valid) {
-            c = self.fail(span.from, reasons::NOT_A_FLOAT);
+        let from = self.at;
+        let d = hexadecimal(line, std::num::wrapping_add_usize(from, 2));
+        let mut c = self.to(d.to);
+        if !is_float(line, from, d.to) {
+            c = self.fail(from, reasons::NOT_A_FLOAT);
         } else if is_nan(d.value) {
-            c = self.fail(span.from, reasons::NAN);
+            c = self.fail(from, reasons::NAN);
         }
         Number {
             c: c,
@@ -209,15 +147,15 @@ impl Cursor {
     }
 }
 
-// Whether the span is 16 hexadecimal digits after `0x`, which are digits.
-fn is_float(line: &[u8], span: Span, valid: bool) -> bool {
-    if !valid {
+// Whether what stands from one place to another is a word of 16 digits after `0x`.
+fn is_float(line: &[u8], from: usize, to: usize) -> bool {
+    if to != std::num::wrapping_add_usize(from, 18) {
         return false;
     }
-    if !starts(line, span.from, b"0x") {
+    if !starts(line, from, b"0x") {
         return false;
     }
-    part(line, span.from, span.to).len() == 18
+    ends(line, to)
 }
 
 fn is_nan(bits: u64) -> bool {

@@ -4,6 +4,7 @@ use reading::call::Call;
 use reading::call::LINE;
 use reading::call::Sequence;
 use showing::Shown;
+use words::find;
 use words::part;
 use writing::write;
 use writing::write::OUT;
@@ -32,6 +33,9 @@ pub struct Stream {
     // the bytes of the input that are taken, and all of them
     pub at: usize,
     pub end: usize,
+    // where the line begins in the input, if all of it is there: then it isn't in the line buffer
+    pub from: usize,
+    pub inside: bool,
     // the bytes of the line so far, at most LONGER, and whether its line feed was there
     pub line: usize,
     pub whole: bool,
@@ -85,6 +89,36 @@ fn number_of(sequence: Sequence) -> usize {
     }
 }
 
+// The bytes that are searched for a line feed at once.
+const BLOCK: usize = 32;
+
+// Whether a byte is one of these. All are looked at, so that many are compared at once.
+fn has(s: &[u8], b: u8) -> bool {
+    let mut any = 0;
+    let mut i = 0;
+    while i < s.len() {
+        any = any | ((s[i] == b) as u8);
+        i += 1;
+    }
+    any != 0
+}
+
+// The place of a line feed, or the end.
+fn line_feed(input: &[u8], from: usize) -> usize {
+    let mut at = from;
+    while at < input.len() {
+        if input.len() - at < BLOCK {
+            return find(input, at, b'\n');
+        }
+        let next = at + BLOCK;
+        if has(&input[at..next], b'\n') {
+            return find(input, at, b'\n');
+        }
+        at = next;
+    }
+    at
+}
+
 // The next bytes of a line, up to its line feed or the end of the input.
 struct Gathered {
     line: usize,
@@ -127,6 +161,8 @@ impl Stream {
             number: 0,
             at: 0,
             end: 0,
+            from: 0,
+            inside: false,
             line: 0,
             whole: false,
             out: 0,
@@ -143,6 +179,21 @@ impl Stream {
         next.number = std::num::wrapping_add_u64(self.number, 1);
         next.line = 0;
         next.whole = false;
+        next.inside = false;
+        next
+    }
+
+    // With the line, if all of it is in the input.
+    fn found(self, input: &[u8]) -> Stream {
+        let mut next = self;
+        let to = line_feed(part(input, 0, self.end), self.at);
+        if to < self.end {
+            next.from = self.at;
+            next.at = to + 1;
+            next.line = std::num::wrapping_sub_usize(to, self.at);
+            next.whole = true;
+            next.inside = true;
+        }
         next
     }
 
@@ -198,7 +249,11 @@ impl Stream {
         line: &mut [u8; LONGER],
         out: &[u8; OUT],
     ) -> Stream {
-        let mut next = self.counted().gathered(input, line);
+        let mut next = self.counted().found(input);
+        if next.whole {
+            return next;
+        }
+        next = next.gathered(input, line);
         let mut turns = u64::MAX;
         while 0 < turns && next.waits() {
             next = next.filled(input, out).gathered(input, line);

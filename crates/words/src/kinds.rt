@@ -26,6 +26,9 @@ pub const KINDS: [u8; 1464] =
     Float40 param_id=u8 float40=f64 ;tail tail=2 ;\
     Mevo mode=u8 ball_type=u8 track_fraction=f64 tee_height_m=f64 range_mm=u16 height_mm=u8 ;";
 
+// How many there are.
+pub const COUNT: usize = 26;
+
 pub const DSP_STATUS: usize = 1;
 
 pub const MODE_SET: usize = 7;
@@ -49,6 +52,39 @@ pub const FLOAT40: usize = 23;
 pub const TAIL: usize = 24;
 
 pub const MEVO_SETTINGS: usize = 25;
+
+// Where a kind begins in KINDS.
+pub fn place_of(kind: usize) -> usize {
+    match kind {
+        0 => 0,
+        1 => 105,
+        2 => 116,
+        3 => 126,
+        4 => 162,
+        5 => 199,
+        6 => 208,
+        7 => 214,
+        8 => 231,
+        9 => 265,
+        10 => 301,
+        11 => 323,
+        12 => 338,
+        13 => 382,
+        14 => 395,
+        15 => 409,
+        16 => 424,
+        17 => 438,
+        18 => 451,
+        19 => 482,
+        20 => 1124,
+        21 => 1131,
+        22 => 1304,
+        23 => 1329,
+        24 => 1362,
+        25 => 1375,
+        _ => 1464,
+    }
+}
 
 // The values of a settings run: the mode, two of the calibration from here on, and three of each parameter: its kind, its id and its value.
 pub const CAL: usize = 1;

@@ -11,7 +11,6 @@ use protocol::refusal::Outcome;
 use words::behind;
 use words::find;
 use words::part;
-use words::place;
 
 // The commands, each with its numbers. A `ParamValue` with a float stands last.
 const COMMANDS: [u8; 398] =
@@ -19,6 +18,31 @@ const COMMANDS: [u8; 398] =
     ParamValue param_id:x int24:i ;RadarCal range_mm:n height_mm:n ;DspQuery ;ConfigQuery ;AvrConfigQuery ;\
     DevInfoReq ;ProdInfoReq sub_query:x ;NetConfigReq query_password:b ;CalParamReq ;CalDataReq sub_cmd:x ;\
     TimeSync epoch:n session:n ;CamConfigReq ;ConfigAck bus_addr:x acked_cmd:x ;ParamValue param_id:x float40:f ;";
+
+// Where a command begins in COMMANDS.
+fn place_of(command: usize) -> usize {
+    match command {
+        0 => 0,
+        1 => 22,
+        2 => 38,
+        3 => 58,
+        4 => 83,
+        5 => 114,
+        6 => 147,
+        7 => 157,
+        8 => 170,
+        9 => 186,
+        10 => 198,
+        11 => 223,
+        12 => 254,
+        13 => 267,
+        14 => 289,
+        15 => 317,
+        16 => 331,
+        17 => 365,
+        _ => 398,
+    }
+}
 
 const CAL_DATA_REQ: usize = 13;
 
@@ -71,12 +95,12 @@ fn of_command(command: Command) -> Numbers {
 }
 
 fn name_in(commands: &[u8], out: &mut [u8; OUT], at: usize, command: usize) -> usize {
-    let from = place(commands, command, b';');
+    let from = place_of(command);
     write::text(out, at, part(commands, from, find(commands, from, b' ')))
 }
 
 fn fields_in(commands: &[u8], out: &mut [u8; OUT], at: usize, n: Numbers) -> usize {
-    let from = behind(commands, place(commands, n.command, b';'), b' ');
+    let from = behind(commands, place_of(n.command), b' ');
     let values = fields::three(n.first, n.second, 0);
     fields::numbers(out, at, commands, from, &values)
 }

@@ -18,15 +18,6 @@ pub fn byte(out: &mut [u8; OUT], at: usize, b: u8) -> usize {
     at
 }
 
-// How bytes are written.
-enum Form {
-    AsTheyAre,
-    // as hexadecimal digits
-    Digits,
-    // with a dot for each that can't be shown
-    Shown,
-}
-
 fn digit(n: u8) -> u8 {
     let low = n % 16;
     if low < 10 {
@@ -41,48 +32,88 @@ pub fn two_digits(out: &mut [u8; OUT], at: usize, b: u8) -> usize {
     byte(out, end, digit(b))
 }
 
+// A byte as it is shown: a dot for one that can't be.
 fn shown(b: u8) -> u8 {
     match b {
         0x20..=0x7E => b,
         _ => b'.',
     }
 }
+// Each of the next three writes nothing where there is no room: the output is written out in time, so there always is.
+pub fn text(out: &mut [u8; OUT], at: usize, s: &[u8]) -> usize {
+    if OUT < at {
+        return at;
+    }
+    if OUT - at < s.len() {
+        return at;
+    }
+    let mut i = 0;
+    while i < s.len() {
+        out[at + i] = s[i];
+        i += 1;
+    }
+    at + s.len()
+}
 
-fn each(out: &mut [u8; OUT], at: usize, s: &[u8], form: Form) -> usize {
-    let mut end = at;
+// Bytes as hexadecimal digits.
+pub fn digits(out: &mut [u8; OUT], at: usize, s: &[u8]) -> usize {
+    if OUT < at {
+        return at;
+    }
+    if (OUT - at) / 2 < s.len() {
+        return at;
+    }
     let mut i = 0;
     while i < s.len() {
         let b = s[i];
-        end = match form {
-            Form::AsTheyAre => byte(out, end, b),
-            Form::Digits => two_digits(out, end, b),
-            Form::Shown => byte(out, end, shown(b)),
-        };
+        out[at + 2 * i] = digit(b / 16);
+        out[at + 2 * i + 1] = digit(b);
         i += 1;
     }
-    end
+    at + 2 * s.len()
 }
 
-pub fn text(out: &mut [u8; OUT], at: usize, s: &[u8]) -> usize {
-    each(out, at, s, Form::AsTheyAre)
-}
-
-pub fn digits(out: &mut [u8; OUT], at: usize, s: &[u8]) -> usize {
-    each(out, at, s, Form::Digits)
+fn shown_text(out: &mut [u8; OUT], at: usize, s: &[u8]) -> usize {
+    if OUT < at {
+        return at;
+    }
+    if OUT - at < s.len() {
+        return at;
+    }
+    let mut i = 0;
+    while i < s.len() {
+        out[at + i] = shown(s[i]);
+        i += 1;
+    }
+    at + s.len()
 }
 
 // Digits, and the bytes that they stand for.
 pub fn digits_and_text(out: &mut [u8; OUT], at: usize, s: &[u8]) -> usize {
     let mut end = digits(out, at, s);
     end = byte(out, end, b'|');
-    end = each(out, end, s, Form::Shown);
+    end = shown_text(out, end, s);
     byte(out, end, b'|')
 }
 
+fn last_digits(out: &mut [u8; OUT], at: usize, digits: &[u8; 20], from: usize) -> usize {
+    text(out, at, part(digits, from, 20))
+}
+
 pub fn decimal(out: &mut [u8; OUT], at: usize, n: u64) -> usize {
+    // the digits, from the last on
     let mut digits = [0u8; 20];
-    let count = io::decimal(n, &mut digits);
-    text(out, at, &digits[..count])
+    let mut i = 20;
+    let mut rest = n;
+    while 0 < i {
+        i -= 1;
+        digits[i] = b'0' + (rest % 10) as u8;
+        rest = rest / 10;
+        if rest == 0 {
+            return last_digits(out, at, &digits, i);
+        }
+    }
+    at
 }
 
 // A number by its two's complement.

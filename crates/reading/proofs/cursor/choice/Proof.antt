@@ -5,11 +5,11 @@ use Rattle.reading.proofs.cursor.choice.Statement.{statement}
 use Rattle.reading.proofs.cursor.choice.Tie as tie
 
 abbrev Inv-loop : tie.InvT-loop
-Inv-loop line names b word k₀ at₀ k at = Unit {0}
+Inv-loop line span names b k₀ at₀ k at = Unit {0}
 
 abbrev μ-loop : tie.MeasureT-loop
-μ-loop line names b word k₀ at₀ k at = 32 - k
+μ-loop line span names b k₀ at₀ k at = 32 - k
 
 pub choice-spec : {M : Type 1} → statement M
 choice-spec =
-    tie.close (tie.spec Inv-loop μ-loop (λ c κs. search needs) (λ c. search needs) (λ c. search needs) (λ c κs. search needs) (λ c κs. search needs) (λ c κs. search needs) (λ c. search needs) (λ c κs. search needs) (λ c. search needs) (λ c. search needs) (λ c. search needs) (λ c. search needs))
+    tie.close (tie.spec Inv-loop μ-loop (λ c. search needs) (λ c. search needs) (λ c κs. search needs) (λ c. search needs) (λ c κs. search needs) (λ c. search needs) (λ c. search needs) (λ c. search needs) (λ c. search needs))
