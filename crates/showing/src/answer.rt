@@ -1,11 +1,11 @@
 // An answer, laid out below its line.
 use crate::Shown;
 use crate::fields;
-use crate::fold;
-use crate::split;
-use crate::split::begins;
 use crate::tables;
 use crate::tables::REFUSALS;
+use folding::fold;
+use folding::split;
+use folding::split::begins;
 use words::behind;
 use words::find;
 use words::part;

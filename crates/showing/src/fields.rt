@@ -1,7 +1,7 @@
 // A result or a state, one field a line.
-use crate::fold;
-use crate::split::begins;
-use crate::split::word_end;
+use folding::fold;
+use folding::split::begins;
+use folding::split::word_end;
 use words::behind;
 use words::byte_at;
 use words::find;

@@ -2,17 +2,16 @@
 // answers, and knows nothing of what the sequences store.
 pub mod answer;
 mod fields;
-mod fold;
-mod split;
 mod summary;
 pub mod tables;
 
+use folding::fold;
 use words::byte_at;
 use words::part;
 use writing::write;
 use writing::write::OUT;
 
-// The most bytes of an answer before it is laid out. The longest are results with the state of a DSP: some 10,500.
+// The most bytes of an answer before it is laid out. The longest are results with the state of a DSP: some 10,200.
 const PLAIN: usize = 16_384;
 
 // What the layout goes by, beside the answer.

@@ -1,8 +1,8 @@
 // What a list comes to.
 use crate::Shown;
-use crate::fold;
 use crate::tables;
 use crate::tables::SEQUENCES;
+use folding::fold;
 use writing::write;
 use writing::write::OUT;
 

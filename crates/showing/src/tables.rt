@@ -1,5 +1,5 @@
 // What the answers mean, in words. Each row is `KEY:WORDS|`.
-use crate::split::begins;
+use folding::split::begins;
 use words::behind;
 use words::byte_at;
 use words::find;

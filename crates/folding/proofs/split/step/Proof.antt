@@ -1,7 +1,7 @@
--- `showing::split::step` is safe and ends: the turns are counted down. Assumes nothing.
+-- `folding::split::step` is safe and ends: the turns are counted down. Assumes nothing.
 use borrow.Author.Needs.{needs}
-use Rattle.showing.proofs.split.step.Statement.{statement}
-use Rattle.showing.proofs.split.step.Tie as tie
+use Rattle.folding.proofs.split.step.Statement.{statement}
+use Rattle.folding.proofs.split.step.Tie as tie
 
 abbrev Inv-loop : tie.InvT-loop
 Inv-loop s from₀ turns₀ from turns = Unit {0}

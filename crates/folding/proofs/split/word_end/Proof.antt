@@ -1,9 +1,9 @@
--- `showing::split::word_end` is safe and ends: each turn leaves fewer bytes of `s`. Assumes nothing.
+-- `folding::split::word_end` is safe and ends: each turn leaves fewer bytes of `s`. Assumes nothing.
 use borrow.Author.Needs.{needs}
 use Prim.Native.Nat.{_-_}
 use lib.ListN.{length}
-use Rattle.showing.proofs.split.word_end.Statement.{statement}
-use Rattle.showing.proofs.split.word_end.Tie as tie
+use Rattle.folding.proofs.split.word_end.Statement.{statement}
+use Rattle.folding.proofs.split.word_end.Tie as tie
 
 abbrev Inv-loop : tie.InvT-loop
 Inv-loop s from value₀ i₀ value i = Unit {0}

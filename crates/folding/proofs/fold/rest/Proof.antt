@@ -1,7 +1,7 @@
--- `showing::fold::rest` is safe and ends: the turns are counted down. Assumes nothing.
+-- `folding::fold::rest` is safe and ends: the turns are counted down. Assumes nothing.
 use borrow.Author.Needs.{needs}
-use Rattle.showing.proofs.fold.rest.Statement.{statement}
-use Rattle.showing.proofs.fold.rest.Tie as tie
+use Rattle.folding.proofs.fold.rest.Statement.{statement}
+use Rattle.folding.proofs.fold.rest.Tie as tie
 
 abbrev Inv-loop : tie.InvT-loop
 Inv-loop out₀ at s column hang end₀ from₀ turns₀ out end from turns = Unit {0}

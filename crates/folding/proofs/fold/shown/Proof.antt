@@ -1,9 +1,9 @@
--- `showing::fold::shown` is safe and ends: each turn leaves fewer bytes of `s`. Assumes nothing.
+-- `folding::fold::shown` is safe and ends: each turn leaves fewer bytes of `s`. Assumes nothing.
 use borrow.Author.Needs.{needs}
 use Prim.Native.Nat.{_-_}
 use lib.ListN.{length}
-use Rattle.showing.proofs.fold.shown.Statement.{statement}
-use Rattle.showing.proofs.fold.shown.Tie as tie
+use Rattle.folding.proofs.fold.shown.Statement.{statement}
+use Rattle.folding.proofs.fold.shown.Tie as tie
 
 abbrev Inv-loop : tie.InvT-loop
 Inv-loop out₀ at s end₀ i₀ out end i = Unit {0}

@@ -1,9 +1,9 @@
--- `showing::fold::fitting` is safe and ends: each turn leaves fewer bytes of `s`. Assumes nothing.
+-- `folding::fold::fitting` is safe and ends: each turn leaves fewer bytes of `s`. Assumes nothing.
 use borrow.Author.Needs.{needs}
 use Prim.Native.Nat.{_-_}
 use lib.ListN.{length}
-use Rattle.showing.proofs.fold.fitting.Statement.{statement}
-use Rattle.showing.proofs.fold.fitting.Tie as tie
+use Rattle.folding.proofs.fold.fitting.Statement.{statement}
+use Rattle.folding.proofs.fold.fitting.Tie as tie
 
 abbrev Inv-loop : tie.InvT-loop
 Inv-loop s from width best₀ left₀ i₀ best left i = Unit {0}

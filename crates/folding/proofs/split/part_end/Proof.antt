@@ -1,7 +1,7 @@
--- `showing::split::part_end` is safe and ends: the turns are counted down. Assumes nothing.
+-- `folding::split::part_end` is safe and ends: the turns are counted down. Assumes nothing.
 use borrow.Author.Needs.{needs}
-use Rattle.showing.proofs.split.part_end.Statement.{statement}
-use Rattle.showing.proofs.split.part_end.Tie as tie
+use Rattle.folding.proofs.split.part_end.Statement.{statement}
+use Rattle.folding.proofs.split.part_end.Tie as tie
 
 abbrev Inv-loop : tie.InvT-loop
 Inv-loop s from at₀ turns₀ at turns = Unit {0}

@@ -1,9 +1,9 @@
--- `showing::fold::columns` is safe and ends: each turn leaves fewer bytes of `s`. Assumes nothing.
+-- `folding::fold::columns` is safe and ends: each turn leaves fewer bytes of `s`. Assumes nothing.
 use borrow.Author.Needs.{needs}
 use Prim.Native.Nat.{_-_}
 use lib.ListN.{length}
-use Rattle.showing.proofs.fold.columns.Statement.{statement}
-use Rattle.showing.proofs.fold.columns.Tie as tie
+use Rattle.folding.proofs.fold.columns.Statement.{statement}
+use Rattle.folding.proofs.fold.columns.Tie as tie
 
 abbrev Inv-loop : tie.InvT-loop
 Inv-loop s n₀ i₀ n i = Unit {0}

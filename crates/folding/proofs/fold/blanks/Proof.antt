@@ -1,8 +1,8 @@
--- `showing::fold::blanks` is safe and ends: each turn leaves fewer blanks. Assumes nothing.
+-- `folding::fold::blanks` is safe and ends: each turn leaves fewer blanks. Assumes nothing.
 use borrow.Author.Needs.{needs}
 use Prim.Native.Nat.{_-_}
-use Rattle.showing.proofs.fold.blanks.Statement.{statement}
-use Rattle.showing.proofs.fold.blanks.Tie as tie
+use Rattle.folding.proofs.fold.blanks.Statement.{statement}
+use Rattle.folding.proofs.fold.blanks.Tie as tie
 
 abbrev Inv-loop : tie.InvT-loop
 Inv-loop out₀ at n end₀ i₀ out end i = Unit {0}
