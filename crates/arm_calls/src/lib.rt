@@ -14,6 +14,7 @@ use scanning::bytes::BYTES;
 use streams::INPUT;
 use streams::LONGER;
 use streams::Stream;
+use words::kinds::Kinds;
 use words::kinds::VALUES;
 use words::part;
 use writing::write;
@@ -128,6 +129,7 @@ fn end(done: Answered, stream: Stream, out: &mut [u8; OUT]) -> Stream {
 pub fn run(
     sequence: Sequence,
     stream: Stream,
+    kinds: &Kinds,
     input: &mut [u8; INPUT],
     line: &mut [u8; LONGER],
     values: &mut [u64; VALUES],
@@ -140,7 +142,7 @@ pub fn run(
     let mut turns = u64::MAX;
     loop {
         let ended = end(done, turn.stream, out);
-        turn = next(ended, calls, input, line, values, bytes, out);
+        turn = next(ended, calls, kinds, input, line, values, bytes, out);
         if turn.leaves() {
             return turn;
         }

@@ -10,6 +10,7 @@ use streams::INPUT;
 use streams::LONGER;
 use streams::Stream;
 use words::byte_at;
+use words::kinds::Kinds;
 use words::kinds::VALUES;
 use words::part;
 use writing::write::OUT;
@@ -66,6 +67,7 @@ fn outside(stream: Stream, call: Call, bytes: &[u8], out: &mut [u8; OUT]) -> Tur
 fn call_of(
     stream: Stream,
     line: &[u8],
+    kinds: &[u8],
     calls: Calls,
     values: &mut [u64; VALUES],
     bytes: &mut [u8; BYTES],
@@ -76,7 +78,7 @@ fn call_of(
         return Turn::without_call(echoed);
     }
     let numbered = echoed.numbered(out);
-    let read = read_line(line, calls, values, bytes);
+    let read = read_line(line, kinds, calls, values, bytes);
     let c = read.c;
     if c.bad() {
         let unread = numbered.unread_line(line, c.at, out);
@@ -104,6 +106,7 @@ fn line_of(bytes: &[u8], from: usize, stream: Stream) -> &[u8] {
 pub fn next(
     start: Stream,
     calls: Calls,
+    kinds: &Kinds,
     input: &mut [u8; INPUT],
     line: &mut [u8; LONGER],
     values: &mut [u64; VALUES],
@@ -121,13 +124,22 @@ pub fn next(
             call_of(
                 stream,
                 line_of(input, stream.from, stream),
+                kinds,
                 calls,
                 values,
                 bytes,
                 out,
             )
         } else {
-            call_of(stream, line_of(line, 0, stream), calls, values, bytes, out)
+            call_of(
+                stream,
+                line_of(line, 0, stream),
+                kinds,
+                calls,
+                values,
+                bytes,
+                out,
+            )
         };
         if !turn.ends() {
             return turn;

@@ -14,6 +14,7 @@ use scanning::bytes::BYTES;
 use streams::INPUT;
 use streams::LONGER;
 use streams::Stream;
+use words::kinds::Kinds;
 use words::kinds::VALUES;
 use words::part;
 use writing::send;
@@ -172,6 +173,7 @@ fn end(done: Answered, stream: Stream, out: &mut [u8; OUT]) -> Stream {
 // are counted down, as reads are.
 pub fn run(
     stream: Stream,
+    kinds: &Kinds,
     input: &mut [u8; INPUT],
     line: &mut [u8; LONGER],
     values: &mut [u64; VALUES],
@@ -183,7 +185,7 @@ pub fn run(
     let mut turns = u64::MAX;
     loop {
         let ended = end(done, turn.stream, out);
-        turn = next(ended, CALLS, input, line, values, bytes, out);
+        turn = next(ended, CALLS, kinds, input, line, values, bytes, out);
         if turn.leaves() {
             return turn;
         }

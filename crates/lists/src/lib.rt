@@ -10,6 +10,8 @@ use streams::Ended;
 use streams::INPUT;
 use streams::LONGER;
 use streams::Stream;
+use words::kinds::KINDS;
+use words::kinds::Kinds;
 use words::kinds::VALUES;
 use writing::write::OUT;
 
@@ -17,6 +19,7 @@ use writing::write::OUT;
 fn run(
     sequence: Sequence,
     stream: Stream,
+    kinds: &Kinds,
     input: &mut [u8; INPUT],
     line: &mut [u8; LONGER],
     values: &mut [u64; VALUES],
@@ -24,34 +27,64 @@ fn run(
     out: &mut [u8; OUT],
 ) -> Turn {
     match sequence {
-        Sequence::Dsp => dsp_calls::run(stream, input, line, values, bytes, out),
-        Sequence::Avr(model) => { avr_calls::run(model, stream, input, line, values, bytes, out) }
-        Sequence::Pi => pi_calls::run(stream, input, line, values, bytes, out),
-        Sequence::AvrConfig(settings) => {
-            avr_config_calls::run(settings, stream, input, line, values, bytes, out)
+        Sequence::Dsp => dsp_calls::run(stream, kinds, input, line, values, bytes, out),
+        Sequence::Avr(model) => {
+            avr_calls::run(model, stream, kinds, input, line, values, bytes, out)
         }
-        Sequence::Disarm => arm_calls::run(sequence, stream, input, line, values, bytes, out),
-        Sequence::Arm(_) => arm_calls::run(sequence, stream, input, line, values, bytes, out),
+        Sequence::Pi => pi_calls::run(stream, kinds, input, line, values, bytes, out),
+        Sequence::AvrConfig(settings) => {
+            avr_config_calls::run(settings, stream, kinds, input, line, values, bytes, out)
+        }
+        Sequence::Disarm => arm_calls::run(
+            sequence,
+            stream,
+            kinds,
+            input,
+            line,
+            values,
+            bytes,
+            out,
+        ),
+        Sequence::Arm(_) => arm_calls::run(
+            sequence,
+            stream,
+            kinds,
+            input,
+            line,
+            values,
+            bytes,
+            out,
+        ),
     }
 }
 
 // Answers a list.
 fn answer(
     stream: Stream,
+    kinds: &Kinds,
     input: &mut [u8; INPUT],
     line: &mut [u8; LONGER],
     values: &mut [u64; VALUES],
     bytes: &mut [u8; BYTES],
     out: &mut [u8; OUT],
 ) -> Stream {
-    let mut turn = next(stream, NO_CALLS, input, line, values, bytes, out);
+    let mut turn = next(stream, NO_CALLS, kinds, input, line, values, bytes, out);
     let mut turns = u64::MAX;
     while 0 < turns {
         let call = turn.call;
         let Call::Begin(sequence) = call else {
             return turn.stream;
         };
-        turn = run(sequence, turn.stream, input, line, values, bytes, out);
+        turn = run(
+            sequence,
+            turn.stream,
+            kinds,
+            input,
+            line,
+            values,
+            bytes,
+            out,
+        );
         turns -= 1;
     }
     turn.stream
@@ -59,6 +92,7 @@ fn answer(
 
 // Answers a whole list, with the stored states if they are asked for, and for people if it is to be shown to them; and how it ended.
 pub fn replay(fd: i32, with_state: bool, shown: bool) -> Ended {
+    let kinds = KINDS;
     let mut input = [0u8; INPUT];
     let mut line = [0u8; LONGER];
     let mut values = [0u64; VALUES];
@@ -66,6 +100,7 @@ pub fn replay(fd: i32, with_state: bool, shown: bool) -> Ended {
     let mut out = [0u8; OUT];
     let stream = answer(
         Stream::new(fd, with_state, shown),
+        &kinds,
         &mut input,
         &mut line,
         &mut values,

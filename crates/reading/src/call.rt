@@ -10,7 +10,6 @@ use scanning::reasons;
 use words::MODELS;
 use words::SOURCES;
 use words::byte_at;
-use words::kinds::KINDS;
 use words::kinds::VALUES;
 use words::low_byte;
 use words::part;
@@ -371,6 +370,7 @@ pub fn is_comment(whole: &[u8]) -> bool {
 // Reads a line that is no comment. The sequence that runs has these calls.
 pub fn read_line(
     whole: &[u8],
+    kinds: &[u8],
     calls: Calls,
     values: &mut [u64; VALUES],
     bytes: &mut [u8; BYTES],
@@ -379,7 +379,7 @@ pub fn read_line(
         return start().fail(LINE, reasons::LONG_LINE).with_call(Call::None);
     }
     let line = trimmed(whole);
-    let read = start().call(line, &KINDS, calls, values, bytes);
+    let read = start().call(line, kinds, calls, values, bytes);
     let c = read.c;
     let call = read.call;
     c.end(line).with_call(call)

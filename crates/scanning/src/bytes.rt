@@ -67,12 +67,12 @@ fn answer(end: usize, at: usize, why: usize) -> Got {
     }
 }
 
-// Behind bytes that a blank or the end of the line has to follow.
-fn followed(line: &[u8], end: usize, at: usize, otherwise: usize) -> Got {
+// Behind a closing quote.
+fn closed(line: &[u8], end: usize, at: usize) -> Got {
     if ends(line, at) {
         return answer(end, at, reasons::NONE);
     }
-    answer(end, at, otherwise)
+    answer(end, at, reasons::NO_END)
 }
 
 // A text, whose opening quote stands before `from`.
@@ -82,7 +82,7 @@ fn text(line: &[u8], from: usize, bytes: &mut [u8; BYTES], at: usize) -> Got {
     while i < line.len() {
         let b = line[i];
         if b == b'"' {
-            return followed(line, end, i + 1, reasons::NO_END);
+            return closed(line, end, i + 1);
         }
         if b < 0x20 {
             return answer(end, i, reasons::CONTROL_BYTE);
@@ -119,7 +119,7 @@ fn first_wrong(s: &[u8]) -> usize {
     i
 }
 
-// Stores what pairs of digits write, and answers whether one isn't one: 1, or else 0.
+// Stores what the pairs of digits write, and answers whether some byte is no digit, or there is no room: 1, or else 0.
 fn pairs(s: &[u8], bytes: &mut [u8; BYTES], at: usize) -> u8 {
     let count = s.len() / 2;
     if BYTES < at {

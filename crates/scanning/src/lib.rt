@@ -91,8 +91,8 @@ pub fn starts(line: &[u8], at: usize, with: &[u8]) -> bool {
     true
 }
 
-// Where the bytes of a line that a name begins with end, if they stand at `at` of the line: the place behind the first `mark` from `from` on of the names.
-// It is 0 where they don't.
+// Whether the name that begins at `from` of the names, and ends with `mark`, stands at `at` of the line: the place behind it in the names, or 0 where it
+// doesn't.
 pub fn named(line: &[u8], at: usize, names: &[u8], from: usize, mark: u8) -> usize {
     let mut i = at;
     let mut k = from;

@@ -1,4 +1,5 @@
 // Digits, and the numbers that they write.
+
 // What digits wrote, and the place behind them.
 pub struct Digits {
     pub to: usize,
@@ -9,10 +10,11 @@ pub struct Digits {
     pub value: u64,
 }
 
-// 2^64 - 1 is 18,446,744,073,709,551,615.
+// The most that a digit fits behind; behind it itself, one up to 5: 2^64 - 1 is 18,446,744,073,709,551,615.
 const TENTH: u64 = 1_844_674_407_370_955_161;
 
-// The value of a hexadecimal digit; of any other byte, some number below 16. There is no branch here, nor in `wrong`: nobody can foretell digits.
+// The value of a hexadecimal digit; of any other byte, some number below 16. No branch is taken, here and in `wrong`: which digit comes
+// can't be foretold.
 pub fn digit(b: u8) -> u8 {
     (b % 16 + 9 * (b / 64)) % 16
 }

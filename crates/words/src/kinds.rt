@@ -6,9 +6,12 @@ pub const VALUES: usize = 99;
 // The numbers of a `ConfigResp`.
 pub const NUMBERS: usize = 34;
 
+// The kinds, one behind the other. Whoever reads lines makes them once, and lends them: a constant is made anew wherever it is named.
+pub type Kinds = [u8; 1464];
+
 // The kinds, by their numbers from 0: each with its fields, and a semicolon. The last five aren't kinds themselves: the two forms of a `DspStatus`, a
 // `ParamValue` with a float, the two bytes of a `TimeSync`, and the settings of a Mevo.
-pub const KINDS: [u8; 1464] =
+pub const KINDS: Kinds =
     *b"AvrStatus version=u8 state=u8 hw_id_hi=u8 hw_id_lo=u8 full_app_id=i32 temperature=f64 tilt=f64 roll=f64 ;\
     DspStatus ;PiStatus ;ConfigAck bus_addr=u8 acked_cmd=u8 ;ConfigNack bus_addr=u8 acked_cmd=u8 ;ModeAck ;Text ;\
     ModeSet mode=u8 ;ParamValue param_id=u8 int24=i32 ;RadarCal range_mm=u16 height_mm=u8 ;ConfigResp params=34 ;\
@@ -53,7 +56,7 @@ pub const TAIL: usize = 24;
 
 pub const MEVO_SETTINGS: usize = 25;
 
-// Where a kind begins in KINDS.
+// Where a kind begins in KINDS. An array of the places would be made anew at each call.
 pub fn place_of(kind: usize) -> usize {
     match kind {
         0 => 0,

@@ -1,9 +1,8 @@
-// Fields: ` NAME=VALUE` each. Numbers are written by a layout: `NAME:FORM` for each field, with a blank behind it, and a semicolon
-// at the end.
+// Fields: ` NAME=VALUE` each. Numbers are written by a layout: `NAME:FORM` for each field, the form a letter with a blank behind it, and a
+// semicolon at the end.
 use crate::write;
 use crate::write::OUT;
 use protocol::stored::Stored;
-use words::behind;
 use words::byte_at;
 use words::find;
 use words::low_byte;
@@ -159,7 +158,7 @@ pub fn numbers(
         end = name(out, end, part(layout, place, to));
         let form = byte_at(layout, std::num::wrapping_add_usize(to, 1));
         end = value(out, end, form, at(values, k));
-        place = behind(layout, to, b' ');
+        place = std::num::wrapping_add_usize(to, 3);
         k += 1;
     }
     end

@@ -39,7 +39,7 @@ fn shown(b: u8) -> u8 {
         _ => b'.',
     }
 }
-// Each of the next three writes nothing where there is no room: the output is written out in time, so there always is.
+// Each of the next writes nothing where there is no room: the output is written out in time, so there always is.
 pub fn text(out: &mut [u8; OUT], at: usize, s: &[u8]) -> usize {
     if OUT < at {
         return at;
@@ -96,24 +96,39 @@ pub fn digits_and_text(out: &mut [u8; OUT], at: usize, s: &[u8]) -> usize {
     byte(out, end, b'|')
 }
 
-fn last_digits(out: &mut [u8; OUT], at: usize, digits: &[u8; 20], from: usize) -> usize {
-    text(out, at, part(digits, from, 20))
+// How many decimal digits a number has.
+fn places(n: u64) -> usize {
+    let mut power: u64 = 10;
+    let mut count = 1;
+    while count < 20 {
+        if n < power {
+            return count;
+        }
+        if 1_000_000_000_000_000_000 < power {
+            return 20;
+        }
+        power = power * 10;
+        count += 1;
+    }
+    count
 }
 
 pub fn decimal(out: &mut [u8; OUT], at: usize, n: u64) -> usize {
-    // the digits, from the last on
-    let mut digits = [0u8; 20];
-    let mut i = 20;
+    let count = places(n);
+    if OUT < at {
+        return at;
+    }
+    if OUT - at < count {
+        return at;
+    }
     let mut rest = n;
+    let mut i = count;
     while 0 < i {
         i -= 1;
-        digits[i] = b'0' + (rest % 10) as u8;
+        out[at + i] = b'0' + (rest % 10) as u8;
         rest = rest / 10;
-        if rest == 0 {
-            return last_digits(out, at, &digits, i);
-        }
     }
-    at
+    at + count
 }
 
 // A number by its two's complement.

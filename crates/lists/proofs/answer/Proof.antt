@@ -4,10 +4,10 @@ use Rattle.lists.proofs.answer.Statement.{statement}
 use Rattle.lists.proofs.answer.Tie as tie
 
 abbrev Inv-loop : tie.InvT-loop
-Inv-loop input₀ line₀ values₀ bytes₀ out₀ turn₀ turns₀ input line values bytes out turn turns = Unit {0}
+Inv-loop kinds input₀ line₀ values₀ bytes₀ out₀ turn₀ turns₀ input line values bytes out turn turns = Unit {0}
 
 abbrev μ-loop : tie.MeasureT-loop
-μ-loop input₀ line₀ values₀ bytes₀ out₀ turn₀ turns₀ input line values bytes out turn turns = turns
+μ-loop kinds input₀ line₀ values₀ bytes₀ out₀ turn₀ turns₀ input line values bytes out turn turns = turns
 
 pub answer-spec : {M : Type 1} → statement M
 answer-spec =

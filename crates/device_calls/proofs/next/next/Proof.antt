@@ -4,10 +4,10 @@ use Rattle.device_calls.proofs.next.next.Statement.{statement}
 use Rattle.device_calls.proofs.next.next.Tie as tie
 
 abbrev Inv-loop : tie.InvT-loop
-Inv-loop calls input₀ line₀ values₀ bytes₀ out₀ stream₀ turns₀ input line values bytes out stream turns = Unit {0}
+Inv-loop calls kinds input₀ line₀ values₀ bytes₀ out₀ stream₀ turns₀ input line values bytes out stream turns = Unit {0}
 
 abbrev μ-loop : tie.MeasureT-loop
-μ-loop calls input₀ line₀ values₀ bytes₀ out₀ stream₀ turns₀ input line values bytes out stream turns = turns
+μ-loop calls kinds input₀ line₀ values₀ bytes₀ out₀ stream₀ turns₀ input line values bytes out stream turns = turns
 
 pub next-spec : {M : Type 1} → statement M
 next-spec =
