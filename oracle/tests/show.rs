@@ -407,10 +407,10 @@ fn papers_and_tables_agree() {
     }
 }
 
-/// The stored lists of the program `shown`, and what it is held to.
+/// The lists that the program `trials` shows, and what it is held to behind the trials.
 #[test]
 fn stored() {
-    let examples = repository("crates/shown/data/examples.list");
+    let examples = repository("crates/trials/data/examples.list");
     let folder = format!("{}/../examples", env!("CARGO_MANIFEST_DIR"));
     let mut names: Vec<_> = fs::read_dir(folder)
         .unwrap()
@@ -421,9 +421,10 @@ fn stored() {
         .iter()
         .map(|name| fs::read_to_string(name).unwrap() + "\n");
     assert_eq!(examples, each.collect::<String>());
-    let odd = repository("crates/shown/data/odd.list");
+    let odd = repository("crates/trials/data/odd.list");
     let both = shown(&examples, false) + &shown(&odd, true);
-    assert!(both == repository("crates/shown/stdout"));
+    let trials = answers(&repository("crates/trials/data/trials.list"), false);
+    assert!(trials + &both == repository("crates/trials/stdout"));
     assert!(both.lines().all(|line| columns(line) <= 100));
     // Every refusal but 13, which takes 65,536 nacks.
     for number in ["1:", "2:", "3:", "4:", "11:", "12:"] {
