@@ -1,5 +1,5 @@
--- Places of a list: one within it does not depend on what stands for those past it; an array that is filled with the images of a list; and
--- whether all formats up to a place are known.
+-- Places of a list: one within it does not depend on what stands for those past it, and one that is not cleared keeps what it has; an array
+-- that is filled with the images of a list; and whether all formats up to a place are known.
 -- Assumes nothing.
 use mathlib.Core.Path.{_≡_, refl, sym, ap, _∙_}
 use mathlib.Core.Bool.{and-true, and-assoc, _&&_}
@@ -7,8 +7,8 @@ use mathlib.Core.List.{List, [], _∷_, map, append-nil}
 use Prim.Native.Nat.{ℕ, zero, suc, _+_, _<_}
 use native.Mathlib.Numerals.{add-one}
 use native.Mathlib.Omega.{arith}
-use lib.ListN.{length, getD, set, take, length-map, List·getD-map}
-use lib.Seq.{take-all}
+use lib.ListN.{length, getD, set, take, replicate, length-map, List·getD-map}
+use lib.Seq.{take-all, getD-set-other}
 use Rattle.protocol.proofs.Filled.{filled, more}
 use Rattle.abi.specs.declared.message.CParamValue.{CParamValue}
 use Rattle.abi.specs.Messages.{paramIn}
@@ -18,6 +18,25 @@ pub within : {A : Type 0} (xs : List A) (n : ℕ) (d d′ : A) → n < length xs
 within [] n d d′ h = absurd (omega arith)
 within (x ∷ xs) zero d d′ h = refl
 within (x ∷ xs) (suc n) d d′ h = within xs n d d′ (omega arith)
+
+-- n is none of these
+abbrev pub None : ℕ → List ℕ → Type 0
+None n [] = Unit {0}
+None n (k ∷ ks) = None n ks × (n ≡ k → ⊥)
+
+-- d stands at these places
+abbrev pub cleared : {A : Type 0} → List A → A → List ℕ → List A
+cleared xs d [] = xs
+cleared xs d (k ∷ ks) = set (cleared xs d ks) k d
+
+pub kept : {A : Type 0} (xs : List A) (d : A) (n : ℕ) (ks : List ℕ) → None n ks → getD xs n d ≡ getD (cleared xs d ks) n d
+kept xs d n [] h = refl
+kept xs d n (k ∷ ks) h = kept xs d n ks (h .0) ∙ sym (getD-set-other (cleared xs d ks) k n d d (h .1))
+
+pub clear : {A : Type 0} (c n : ℕ) (d : A) → getD (replicate c d) n d ≡ d
+clear zero n d = refl
+clear (suc c) zero d = refl
+clear (suc c) (suc n) d = clear c n d
 
 -- one more image
 pub image : {A B : Type 0} (f : A → B) (n : ℕ) (z : B) (xs : List A) (i : ℕ) (d : A) → i < length xs → i < n

@@ -9,11 +9,11 @@ use lib.IntN.{ℤ}
 use lib.ListN.{getD}
 use Rattle.protocol.specs.declared.Message.{Message}
 use Rattle.protocol.specs.declared.Message.the-variants as Msg
-use Rattle.protocol.specs.declared.status.DspStatus.{DspStatus}
+use Rattle.protocol.specs.declared.DspStatus.{DspStatus}
 use Rattle.protocol.specs.Carried.{noDspStatus80, noDspStatus}
 use Rattle.protocol.specs.Kinds as kinds
-use Rattle.protocol.specs.declared.config.ParamData.{ParamData}
-use Rattle.protocol.specs.declared.config.ParamValue.{ParamValue}
+use Rattle.protocol.specs.declared.ParamData.{ParamData}
+use Rattle.protocol.specs.declared.ParamValue.{ParamValue}
 use Rattle.abi.specs.declared.message.CDspStatus.{CDspStatus}
 use Rattle.abi.specs.declared.message.CParamValue.{CParamValue}
 use Rattle.abi.specs.declared.message.CMessage.{CMessage}

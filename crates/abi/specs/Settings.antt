@@ -3,7 +3,7 @@
 use Prim.Native.Nat.{ℕ}
 use mathlib.Core.Bool.{Bool, true, _&&_}
 use mathlib.Core.List.{List, [], _∷_, map}
-use Rattle.protocol.specs.declared.config.ParamValue.{ParamValue}
+use Rattle.protocol.specs.declared.ParamValue.{ParamValue}
 use Rattle.settings.specs.declared.AvrSettings.{AvrSettings}
 use Rattle.abi.specs.declared.message.CParamValue.{CParamValue}
 use Rattle.abi.specs.declared.config.CSettings.{CSettings}

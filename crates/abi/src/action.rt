@@ -6,7 +6,7 @@ use crate::message::CParamValue;
 use crate::message::param_out;
 use protocol::Action;
 use protocol::Command;
-use protocol::config::ParamValue;
+use protocol::ParamValue;
 
 // A command by its place in the enum, and its numbers: `flag` is pi_mode, arm or query_password; `byte` is the mode, a parameter's id, a
 // height, a sub query, a sub command, a session or a bus address; `acked_cmd` that of an acknowledgement; `wide` a range or an epoch;

@@ -4,8 +4,8 @@ ghost use Rattle.abi.specs.Settings.{paramsIn, paramsOut, settingsIn, se
 use crate::message::CParamValue;
 use crate::message::param_in;
 use crate::message::param_out;
-use protocol::config::ParamData;
-use protocol::config::ParamValue;
+use protocol::ParamData;
+use protocol::ParamValue;
 use settings::AvrSettings;
 use settings::OptionRadarCal;
 

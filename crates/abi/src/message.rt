@@ -1,25 +1,25 @@
 // Messages and envelopes, as a host hands them in.
 ghost use mathlib.Core.Path.{_≡_};
 ghost use Rattle.protocol.specs.Carried.{noDspStatus80, noDspStatus};
-ghost use Rattle.abi.specs.Messages.{dspStatusIn, dspStatusOut, knownParam, paramIn, paramOut, knownMessage, plainIn, recordIn, ackIn, messageIn, envelopeIn};
+ghost use Rattle.abi.specs.Messages.{dspStatusIn, dspStatusOut, knownParam, paramIn, paramOut, plainIn, recordIn, ackIn, messageIn, envelopeIn};
 use crate::number::addr_in;
+use protocol::AvrStatus;
+use protocol::BusAddr;
+use protocol::CamConfig;
+use protocol::ConfigAck;
+use protocol::DspQueryResp;
+use protocol::DspStatus;
+use protocol::DspStatus46;
+use protocol::DspStatus80;
 use protocol::Message;
-use protocol::addr::BusAddr;
-use protocol::camera::CamConfig;
-use protocol::config::ModeSet;
-use protocol::config::ParamData;
-use protocol::config::ParamValue;
-use protocol::config::RadarCal;
-use protocol::handshake::DspQueryResp;
-use protocol::handshake::TimeSync;
-use protocol::status::AvrStatus;
-use protocol::status::ConfigAck;
-use protocol::status::DspStatus;
-use protocol::status::DspStatus46;
-use protocol::status::DspStatus80;
+use protocol::ModeSet;
+use protocol::ParamData;
+use protocol::ParamValue;
+use protocol::RadarCal;
+use protocol::TimeSync;
 
 // How many kinds of messages there are.
-const KINDS: usize = 21;
+const KINDS: u8 = 21;
 
 // `v80` counts where `layout` is 0, `v46` where it is 1.
 #[repr(C)]
@@ -196,88 +196,60 @@ pub fn param_out(param: ParamValue) -> CParamValue
     }
 }
 
-fn known(message: Message) -> SomeMessage
-    ensures { λ r. ⌜ r ≡ knownMessage message ⌝ }
+// A kind that has no record. Those that have one are taken before.
+fn plain_in(kind: u8) -> Message
+    ensures { λ r. ⌜ r ≡ plainIn kind .value ⌝ }
 {
-    SomeMessage {
-        known: true,
-        value: message,
+    match kind {
+        2 => Message::PiStatus,
+        5 => Message::ModeAck,
+        6 => Message::Text,
+        10 => Message::ConfigResp,
+        11 => Message::AvrConfigResp,
+        13 => Message::DevInfoResp,
+        14 => Message::ProdInfoResp,
+        15 => Message::NetConfigResp,
+        16 => Message::CalParamResp,
+        17 => Message::CalDataResp,
+        _ => Message::Other,
     }
 }
 
-// A kind that has no record. The places of those that have one are not come to.
-fn plain_in(kind: u8) -> SomeMessage
-    ensures { λ r. ⌜ r ≡ plainIn kind ⌝ }
-{
-    let kinds = [
-        Message::Other,
-        Message::Other,
-        Message::PiStatus,
-        Message::Other,
-        Message::Other,
-        Message::ModeAck,
-        Message::Text,
-        Message::Other,
-        Message::Other,
-        Message::Other,
-        Message::ConfigResp,
-        Message::AvrConfigResp,
-        Message::Other,
-        Message::DevInfoResp,
-        Message::ProdInfoResp,
-        Message::NetConfigResp,
-        Message::CalParamResp,
-        Message::CalDataResp,
-        Message::Other,
-        Message::Other,
-        Message::Other,
-    ];
-    let at = kind as usize;
-    if at < KINDS {
-        let value = kinds[at];
-        return known(value);
-    }
-    SomeMessage {
-        known: false,
-        value: Message::Other,
-    }
-}
-
-fn record_in(m: CMessage) -> SomeMessage
-    ensures { λ r. ⌜ r ≡ recordIn m ⌝ }
+fn record_in(m: CMessage) -> Message
+    ensures { λ r. ⌜ r ≡ recordIn m .value ⌝ }
 {
     if m.kind == 7 {
         let mode_set = m.mode_set;
-        return known(Message::ModeSet(mode_set));
+        return Message::ModeSet(mode_set);
     }
     if m.kind == 9 {
         let radar_cal = m.radar_cal;
-        return known(Message::RadarCal(radar_cal));
+        return Message::RadarCal(radar_cal);
     }
     if m.kind == 12 {
         let resp = m.dsp_query_resp;
-        return known(Message::DspQueryResp(resp));
+        return Message::DspQueryResp(resp);
     }
     if m.kind == 18 {
         let time_sync = m.time_sync;
-        return known(Message::TimeSync(time_sync));
+        return Message::TimeSync(time_sync);
     }
     if m.kind == 19 {
         let cam_config = m.cam_config;
-        return known(Message::CamConfig(cam_config));
+        return Message::CamConfig(cam_config);
     }
     plain_in(m.kind)
 }
 
-fn ack_in(m: CMessage) -> SomeMessage
-    ensures { λ r. ⌜ r ≡ ackIn m ⌝ }
+fn ack_in(m: CMessage) -> Message
+    ensures { λ r. ⌜ r ≡ ackIn m .value ⌝ }
 {
     let ack = m.ack;
     if m.kind == 3 {
-        return known(Message::ConfigAck(ack));
+        return Message::ConfigAck(ack);
     }
     if m.kind == 4 {
-        return known(Message::ConfigNack(ack));
+        return Message::ConfigNack(ack);
     }
     record_in(m)
 }
@@ -288,7 +260,10 @@ pub fn message_in(m: CMessage) -> SomeMessage
 {
     if m.kind == 0 {
         let avr_status = m.avr_status;
-        return known(Message::AvrStatus(avr_status));
+        return SomeMessage {
+            known: true,
+            value: Message::AvrStatus(avr_status),
+        };
     }
     if m.kind == 1 {
         let status = dsp_status_in(m.dsp_status);
@@ -306,7 +281,10 @@ pub fn message_in(m: CMessage) -> SomeMessage
             value: Message::ParamValue(value),
         };
     }
-    ack_in(m)
+    SomeMessage {
+        known: m.kind < KINDS,
+        value: ack_in(m),
+    }
 }
 
 pub fn envelope_in(e: CEnvelope) -> SomeEnvelope

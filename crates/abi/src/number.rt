@@ -3,8 +3,8 @@ ghost use mathlib.Core.Path.{_≡_};
 ghost use mathlib.Core.Bool.{true};
 ghost use Rattle.abi.specs.Numbers.{addrIn, modelIn, modelOut, refusalOut};
 use device::model::DeviceModel;
-use protocol::addr::BusAddr;
-use protocol::refusal::Outcome;
+use protocol::BusAddr;
+use protocol::Outcome;
 
 pub struct SomeAddr {
     pub known: bool,

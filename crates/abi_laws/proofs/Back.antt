@@ -4,10 +4,10 @@ use mathlib.Core.Path.{_≡_, refl, ap}
 use mathlib.Core.Bool.{true}
 use mathlib.Core.List.{List, [], _∷_, map}
 use Prim.Native.Nat.{ℕ}
-use Rattle.protocol.specs.declared.addr.BusAddr.{BusAddr}
-use Rattle.protocol.specs.declared.config.ParamData.{ParamData}
-use Rattle.protocol.specs.declared.config.ParamValue.{ParamValue}
-use Rattle.protocol.specs.declared.status.DspStatus.{DspStatus}
+use Rattle.protocol.specs.declared.BusAddr.{BusAddr}
+use Rattle.protocol.specs.declared.ParamData.{ParamData}
+use Rattle.protocol.specs.declared.ParamValue.{ParamValue}
+use Rattle.protocol.specs.declared.DspStatus.{DspStatus}
 use Rattle.protocol.specs.declared.Message.{Message}
 use Rattle.protocol.specs.declared.Message.the-variants as Msg
 use Rattle.protocol.specs.declared.Command.{Command}

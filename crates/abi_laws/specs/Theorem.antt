@@ -8,16 +8,16 @@ use mathlib.Core.List.{List, [], _∷_}
 use lib.Ieee.{binary64, ofBits}
 use lib.IntN.{ℤ}
 use lib.ListN.{getD}
-use Rattle.protocol.specs.declared.addr.BusAddr.{BusAddr}
-use Rattle.protocol.specs.declared.camera.CamConfig.{CamConfig}
-use Rattle.protocol.specs.declared.config.ModeSet.{ModeSet}
-use Rattle.protocol.specs.declared.config.ParamValue.{ParamValue}
-use Rattle.protocol.specs.declared.config.RadarCal.{RadarCal}
-use Rattle.protocol.specs.declared.handshake.DspQueryResp.{DspQueryResp}
-use Rattle.protocol.specs.declared.handshake.TimeSync.{TimeSync}
-use Rattle.protocol.specs.declared.status.AvrStatus.{AvrStatus}
-use Rattle.protocol.specs.declared.status.ConfigAck.{ConfigAck}
-use Rattle.protocol.specs.declared.status.DspStatus.{DspStatus}
+use Rattle.protocol.specs.declared.BusAddr.{BusAddr}
+use Rattle.protocol.specs.declared.CamConfig.{CamConfig}
+use Rattle.protocol.specs.declared.ModeSet.{ModeSet}
+use Rattle.protocol.specs.declared.ParamValue.{ParamValue}
+use Rattle.protocol.specs.declared.RadarCal.{RadarCal}
+use Rattle.protocol.specs.declared.DspQueryResp.{DspQueryResp}
+use Rattle.protocol.specs.declared.TimeSync.{TimeSync}
+use Rattle.protocol.specs.declared.AvrStatus.{AvrStatus}
+use Rattle.protocol.specs.declared.ConfigAck.{ConfigAck}
+use Rattle.protocol.specs.declared.DspStatus.{DspStatus}
 use Rattle.protocol.specs.declared.Message.{Message}
 use Rattle.protocol.specs.declared.Message.the-variants as Msg
 use Rattle.protocol.specs.declared.Command.{Command}

@@ -1,7 +1,7 @@
 -- The six sequencers as a host holds them, and back: a state is known if every number in it is. Definitions only.
 -- Assumes nothing.
 use mathlib.Core.Bool.{_&&_}
-use Rattle.protocol.specs.declared.status.OptionNack.{OptionNack}
+use Rattle.protocol.specs.declared.OptionNack.{OptionNack}
 use Rattle.protocol.specs.Addr.{byteOf}
 use Rattle.dsp.specs.declared.DspSequencer.{DspSequencer}
 use Rattle.avr.specs.declared.AvrSequencer.{AvrSequencer}

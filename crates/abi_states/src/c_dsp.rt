@@ -12,12 +12,12 @@ use dsp_steps::DspState;
 use dsp_steps::DspStep;
 use dsp_steps::OptionDspQueryResp;
 use dsp_steps::OptionDspStatus;
-use protocol::config::OptionConfigResp;
-use protocol::handshake::OptionDevInfoResp;
-use protocol::handshake::ProdInfoResp;
-use protocol::status::ConfigAck;
-use protocol::status::OptionNack;
-use protocol::stored::Stored;
+use protocol::ConfigAck;
+use protocol::OptionConfigResp;
+use protocol::OptionDevInfoResp;
+use protocol::OptionNack;
+use protocol::ProdInfoResp;
+use protocol::Stored;
 use sequence::OptionInstant;
 
 #[repr(C)]

@@ -5,8 +5,8 @@ use mathlib.Core.Bool.{Bool, true, false, _||_, and-false}
 use Prim.Native.Nat.{ℕ, _≤_, _<_}
 use native.Mathlib.Omega.{arith}
 use lib.Dec.{eqb}
-use Rattle.protocol.specs.declared.refusal.Refusal.{Refusal}
-use Rattle.protocol.specs.declared.refusal.Outcome.{Outcome}
+use Rattle.protocol.specs.declared.Refusal.{Refusal}
+use Rattle.protocol.specs.declared.Outcome.{Outcome}
 use Rattle.protocol.specs.Refusals.{Applies, outcome, lowest}
 use Rattle.protocol.proofs.Numbers.{Rises, end, then, Listed, lowest-least}
 use Rattle.sequence.specs.Accepted.{bytesOutcome}

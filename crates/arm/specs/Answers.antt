@@ -5,9 +5,9 @@ use Prim.Native.Nat.{ℕ, _+_}
 use mathlib.Core.Bool.{Bool, true, false, not, cond, _&&_, _||_}
 use mathlib.Core.List.{List, [], _∷_, _++_}
 use lib.Dec.{eqb}
-use Rattle.protocol.specs.declared.addr.BusAddr.{BusAddr}
+use Rattle.protocol.specs.declared.BusAddr.{BusAddr}
 use Rattle.protocol.specs.declared.Action.{Action}
-use Rattle.protocol.specs.declared.refusal.Outcome.{Outcome}
+use Rattle.protocol.specs.declared.Outcome.{Outcome}
 use Rattle.protocol.specs.Action.{noAction}
 use Rattle.protocol.specs.Kinds as kinds
 use Rattle.protocol.specs.Refusals.{Applies, outcome, lowest}

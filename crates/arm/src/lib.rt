@@ -3,8 +3,8 @@
 ghost use mathlib.Core.Path.{_≡_};
 ghost use mathlib.Core.List.{[]};
 ghost use denote.Ref.{now as held};
-ghost use Rattle.protocol.specs.declared.addr.BusAddr.{BusAddr};
-ghost use Rattle.protocol.specs.declared.refusal.Outcome.{Outcome};
+ghost use Rattle.protocol.specs.declared.BusAddr.{BusAddr};
+ghost use Rattle.protocol.specs.declared.Outcome.{Outcome};
 ghost use Rattle.device.specs.declared.model.DeviceModel.{DeviceModel};
 ghost use Rattle.sequence.specs.Events.{plain};
 ghost use Rattle.arm.specs.declared.ArmStep.{ArmStep};
@@ -12,10 +12,10 @@ ghost use Rattle.arm.specs.Answers.{begun, isArmed, to, idle, refused, n
 use device::model::DeviceModel;
 use device::search::contains;
 use protocol::Action;
+use protocol::BusAddr;
 use protocol::Message;
-use protocol::addr::BusAddr;
-use protocol::refusal::Outcome;
-use protocol::refusal::Refusal;
+use protocol::Outcome;
+use protocol::Refusal;
 use requests::avr_config_cmd;
 use requests::status_poll;
 
@@ -105,11 +105,11 @@ impl ArmSequencer {
         match src {
             BusAddr::Dsp => match message {
                 Message::DspStatus(_) => {
-                    self.to(ArmStep::WaitAvrStatus, status_poll(false, BusAddr::Avr))
+                    return self.to(ArmStep::WaitAvrStatus, status_poll(false, BusAddr::Avr));
                 }
-                _ => self.idle(),
+                _ => return self.idle(),
             },
-            _ => self.idle(),
+            _ => return self.idle(),
         }
     }
 
@@ -118,10 +118,10 @@ impl ArmSequencer {
     {
         match src {
             BusAddr::Avr => match message {
-                Message::AvrStatus(_) => self.to(ArmStep::WaitArmAck, avr_config_cmd(true)),
-                _ => self.idle(),
+                Message::AvrStatus(_) => return self.to(ArmStep::WaitArmAck, avr_config_cmd(true)),
+                _ => return self.idle(),
             },
-            _ => self.idle(),
+            _ => return self.idle(),
         }
     }
 
@@ -162,11 +162,11 @@ impl ArmSequencer {
     {
         match src {
             BusAddr::Avr => match message {
-                Message::ConfigNack(_) => self.retry(),
-                Message::ConfigAck(_) => self.taken(),
-                _ => self.idle(),
+                Message::ConfigNack(_) => return self.retry(),
+                Message::ConfigAck(_) => return self.taken(),
+                _ => return self.idle(),
             },
-            _ => self.idle(),
+            _ => return self.idle(),
         }
     }
 

@@ -5,9 +5,9 @@ use Prim.Native.Nat.{ℕ}
 use mathlib.Core.Path.{_≡_, refl, sym, ap}
 use mathlib.Core.Bool.{true, false, true≢false}
 use mathlib.Core.List.{List, [], _∷_, _++_}
-use Rattle.protocol.specs.declared.addr.BusAddr.{BusAddr}
+use Rattle.protocol.specs.declared.BusAddr.{BusAddr}
 use Rattle.protocol.specs.declared.Message.{Message}
-use Rattle.protocol.specs.declared.status.DspStatus.{DspStatus}
+use Rattle.protocol.specs.declared.DspStatus.{DspStatus}
 use Rattle.protocol.specs.Carried.{noAvrStatus}
 use Rattle.device.specs.declared.model.DeviceModel.{DeviceModel}
 use Rattle.sequence.specs.Events.{Envelope, plain}

@@ -3,8 +3,8 @@
 use Prim.Native.Nat.{ℕ}
 use mathlib.Core.Bool.{Bool, false, cond}
 use lib.Dec.{eqb}
-use Rattle.protocol.specs.declared.addr.BusAddr.{BusAddr}
-use Rattle.protocol.specs.declared.refusal.Outcome.{Outcome}
+use Rattle.protocol.specs.declared.BusAddr.{BusAddr}
+use Rattle.protocol.specs.declared.Outcome.{Outcome}
 use Rattle.protocol.specs.Action.{noAction}
 use Rattle.protocol.specs.Refusals.{outcome, lowest}
 use Rattle.device.specs.declared.model.DeviceModel.{DeviceModel}

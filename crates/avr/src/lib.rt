@@ -3,7 +3,7 @@
 // does is crate avr_steps'.
 ghost use mathlib.Core.Path.{_≡_};
 ghost use denote.Ref.{now as held};
-ghost use Rattle.protocol.specs.declared.refusal.Outcome.{Outcome};
+ghost use Rattle.protocol.specs.declared.Outcome.{Outcome};
 ghost use Rattle.device.specs.declared.model.DeviceModel.{DeviceModel};
 ghost use Rattle.protocol.specs.Carried.{noAvrStatus};
 ghost use Rattle.avr_steps.specs.Stores.{noReplies};
@@ -19,21 +19,21 @@ use avr_steps::OptionCalDataResp;
 use avr_steps::OptionCalParamResp;
 use device::model::DeviceModel;
 use protocol::Action;
+use protocol::AvrConfigResp;
+use protocol::AvrStatus;
+use protocol::BusAddr;
+use protocol::CalDataResp;
+use protocol::CalParamResp;
 use protocol::Command;
+use protocol::ConfigResp;
+use protocol::DevInfoResp;
 use protocol::Message;
-use protocol::addr::BusAddr;
-use protocol::config::AvrConfigResp;
-use protocol::config::ConfigResp;
-use protocol::config::OptionConfigResp;
-use protocol::handshake::CalDataResp;
-use protocol::handshake::CalParamResp;
-use protocol::handshake::DevInfoResp;
-use protocol::handshake::OptionDevInfoResp;
-use protocol::refusal::Outcome;
-use protocol::refusal::Refusal;
-use protocol::status::AvrStatus;
-use protocol::status::StatusPoll;
-use protocol::stored::Stored;
+use protocol::OptionConfigResp;
+use protocol::OptionDevInfoResp;
+use protocol::Outcome;
+use protocol::Refusal;
+use protocol::StatusPoll;
+use protocol::Stored;
 use sequence::OptionInstant;
 
 pub struct AvrSequencer {
@@ -229,23 +229,23 @@ impl AvrSequencer {
             Outcome::Accepted => match src {
                 BusAddr::Avr => {
                     let state = self.state;
-                    accepted(
+                    return accepted(
                         state.feed(type_id, message, params, text, payload, now, wall),
                         now,
-                    )
+                    );
                 }
                 _ => {
                     let mut seq = self;
                     seq.last = now;
                     let action = Action::none();
-                    AvrFed {
+                    return AvrFed {
                         outcome: Outcome::Accepted,
                         action: action,
                         seq: seq,
-                    }
+                    };
                 }
             },
-            Outcome::Refused(refusal) => self.refuse(refusal),
+            Outcome::Refused(refusal) => return self.refuse(refusal),
         }
     }
 

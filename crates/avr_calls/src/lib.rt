@@ -7,7 +7,7 @@ use avr_steps::AvrStep;
 use device::model::DeviceModel;
 use device_calls::next::Turn;
 use device_calls::next::next;
-use protocol::refusal::Outcome;
+use protocol::Outcome;
 use reading::call::Call;
 use reading::call::Calls;
 use reading::call::Feed;

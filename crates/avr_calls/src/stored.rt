@@ -6,7 +6,7 @@ use avr_steps::OptionAvrConfigResp;
 use avr_steps::OptionAvrStatus;
 use avr_steps::OptionCalDataResp;
 use avr_steps::OptionCalParamResp;
-use protocol::status::AvrStatus;
+use protocol::AvrStatus;
 use writing::fields;
 use writing::fields::FIELDS;
 use writing::records;

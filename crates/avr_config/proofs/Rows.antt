@@ -9,7 +9,7 @@ use lib.Dec.{eqb}
 use borrow.Author.Tests.{lt-ltb, le-ltb}
 use Rattle.protocol.specs.Addr.{byteOf}
 use Rattle.protocol.specs.Action.{noAction}
-use Rattle.protocol.specs.declared.refusal.Outcome.{Outcome}
+use Rattle.protocol.specs.declared.Outcome.{Outcome}
 use Rattle.sequence.specs.Events.{Envelope, Event, fed, plain}
 use Rattle.sequence.specs.Rows.{passes, noDeadline}
 use Rattle.sequence.proofs.Arms.{at-idles, at-ticks}

@@ -6,7 +6,7 @@ use mathlib.Core.Bool.{false, cond}
 use mathlib.Core.List.{List, [], _∷_, _++_, map}
 use lib.Dec.{ltb}
 use lib.ListN.{getD}
-use Rattle.protocol.specs.declared.addr.BusAddr.{BusAddr}
+use Rattle.protocol.specs.declared.BusAddr.{BusAddr}
 use Rattle.protocol.specs.declared.Command.{Command}
 use Rattle.protocol.specs.declared.Action.{Action}
 use Rattle.protocol.specs.Action.{noAction, sendTo}

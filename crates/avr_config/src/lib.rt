@@ -3,20 +3,20 @@
 ghost use mathlib.Core.Path.{_≡_};
 ghost use mathlib.Core.List.{[]};
 ghost use denote.Ref.{now as held};
-ghost use Rattle.protocol.specs.declared.addr.BusAddr.{BusAddr};
-ghost use Rattle.protocol.specs.declared.refusal.Outcome.{Outcome};
+ghost use Rattle.protocol.specs.declared.BusAddr.{BusAddr};
+ghost use Rattle.protocol.specs.declared.Outcome.{Outcome};
 ghost use Rattle.protocol.specs.Action.{noAction};
 ghost use Rattle.sequence.specs.Events.{fed, plain};
 ghost use Rattle.avr_config.specs.declared.AvrConfigStep.{AvrConfigStep};
 ghost use Rattle.avr_config.specs.Table.{paramStep, next};
 ghost use Rattle.avr_config.specs.Answers.{begun, refused, goes, advance, fedTo, armAt};
 use protocol::Action;
+use protocol::BusAddr;
 use protocol::Command;
 use protocol::Message;
-use protocol::addr::BusAddr;
-use protocol::config::ModeSet;
-use protocol::refusal::Outcome;
-use protocol::refusal::Refusal;
+use protocol::ModeSet;
+use protocol::Outcome;
+use protocol::Refusal;
 use requests::avr_config_cmd;
 use settings::AvrSettings;
 use settings::MAX_PARAMS;
@@ -267,10 +267,10 @@ impl AvrConfigSequencer {
         let outcome = sequence::accept_bytes(text, payload);
         match outcome {
             Outcome::Accepted => match src {
-                BusAddr::Avr => self.feed_avr(message),
-                _ => self.idle(),
+                BusAddr::Avr => return self.feed_avr(message),
+                _ => return self.idle(),
             },
-            Outcome::Refused(refusal) => self.refuse(refusal),
+            Outcome::Refused(refusal) => return self.refuse(refusal),
         }
     }
 }

@@ -1,5 +1,5 @@
 // Writes the settings that a run stores.
-use protocol::config::ParamValue;
+use protocol::ParamValue;
 use settings::AvrSettings;
 use settings::MAX_PARAMS;
 use settings::OptionRadarCal;

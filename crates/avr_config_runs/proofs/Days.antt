@@ -7,8 +7,8 @@ use mathlib.Core.Bool.{true, false, true≢false}
 use mathlib.Core.List.{List, [], _∷_, _++_}
 use lib.IntN.{ℤ}
 use lib.ListN.{length, replicate}
-use Rattle.protocol.specs.declared.addr.BusAddr.{BusAddr}
-use Rattle.protocol.specs.declared.config.ParamData.{ParamData}
+use Rattle.protocol.specs.declared.BusAddr.{BusAddr}
+use Rattle.protocol.specs.declared.ParamData.{ParamData}
 use Rattle.protocol.specs.declared.Message.{Message}
 use Rattle.matching.specs.Promise.{afterAll, events, Matched, First}
 use Rattle.matching.proofs.Called.{run-rises}

@@ -6,11 +6,11 @@ use mathlib.Core.Path.{_≡_, refl, sym, _∙_, ap}
 use mathlib.Core.Bool.{true, false, true≢false}
 use mathlib.Core.List.{List, [], _∷_, _++_}
 use lib.IntN.{ℤ}
-use Rattle.protocol.specs.declared.addr.BusAddr.{BusAddr}
+use Rattle.protocol.specs.declared.BusAddr.{BusAddr}
 use Rattle.protocol.specs.declared.Message.{Message}
-use Rattle.protocol.specs.declared.config.ParamData.{ParamData}
-use Rattle.protocol.specs.declared.refusal.Outcome.{Outcome}
-use Rattle.protocol.specs.declared.status.AvrStatus.{AvrStatus}
+use Rattle.protocol.specs.declared.ParamData.{ParamData}
+use Rattle.protocol.specs.declared.Outcome.{Outcome}
+use Rattle.protocol.specs.declared.AvrStatus.{AvrStatus}
 use Rattle.protocol.specs.Refusals.{outcome}
 use Rattle.protocol.specs.Stored.{stored}
 use Rattle.device.specs.declared.model.DeviceModel.{DeviceModel}

@@ -12,7 +12,7 @@ use Rattle.protocol.specs.Addr.{byteOf}
 use Rattle.protocol.specs.Kinds.{tag}
 use lib.ListN.{length, getD, List·getD-eq-default}
 use borrow.Author.Tests.{lt-ltb, le-ltb, le-leb, lt-leb, eqb-true}
-use Rattle.protocol.specs.declared.refusal.Outcome.{Outcome}
+use Rattle.protocol.specs.declared.Outcome.{Outcome}
 use Rattle.device.specs.declared.model.DeviceModel.{DeviceModel}
 use Rattle.device.specs.Model.{hasFactoryCal}
 use Rattle.matching.specs.Promise.{Each, clock}

@@ -6,7 +6,7 @@ ghost use mathlib.Core.List.{[]};
 ghost use Prim.Native.Nat.{_<_};
 ghost use denote.Ref.{now as held};
 ghost use Rattle.protocol.specs.Action.{noAction, sendTo};
-ghost use Rattle.protocol.specs.declared.addr.BusAddr.{BusAddr};
+ghost use Rattle.protocol.specs.declared.BusAddr.{BusAddr};
 ghost use Rattle.protocol.specs.declared.Command.{Command};
 ghost use Rattle.device.specs.Model.{hasFactoryCal};
 ghost use Rattle.sequence.specs.Events.{checked};
@@ -16,19 +16,19 @@ ghost use Rattle.avr_steps.specs.Table.{statusRow, devInfoRow, paramRow,
 ghost use Rattle.avr_steps.specs.Answers.{order, sends, withRepoll, withDeadline, later, advance, answered, sent, armAt, pollAt};
 use device::model::DeviceModel;
 use protocol::Action;
+use protocol::AvrConfigResp;
+use protocol::AvrStatus;
+use protocol::BusAddr;
+use protocol::CalDataResp;
+use protocol::CalParamResp;
 use protocol::Command;
+use protocol::ConfigResp;
+use protocol::DevInfoResp;
 use protocol::Message;
-use protocol::addr::BusAddr;
-use protocol::config::AvrConfigResp;
-use protocol::config::ConfigResp;
-use protocol::config::OptionConfigResp;
-use protocol::handshake::CalDataResp;
-use protocol::handshake::CalParamResp;
-use protocol::handshake::DevInfoResp;
-use protocol::handshake::OptionDevInfoResp;
-use protocol::handshake::TimeSync;
-use protocol::status::AvrStatus;
-use protocol::stored::Stored;
+use protocol::OptionConfigResp;
+use protocol::OptionDevInfoResp;
+use protocol::Stored;
+use protocol::TimeSync;
 use requests::cal_data_req;
 use requests::param_read_req;
 use requests::status_poll;
@@ -179,10 +179,9 @@ impl AvrState {
         match message {
             Message::ConfigNack(nack) => {
                 if nack.acked_cmd == STATUS {
-                    self.repoll_later(now)
-                } else {
-                    self.idle()
+                    return self.repoll_later(now);
                 }
+                return self.idle();
             }
             Message::AvrStatus(s) => {
                 let mut replies = self.replies;
@@ -192,9 +191,9 @@ impl AvrState {
                 };
                 replies.status = status;
                 let cleared = OptionInstant::none();
-                self.with_repoll(cleared).moved(step, replies, action)
+                return self.with_repoll(cleared).moved(step, replies, action);
             }
-            _ => self.idle(),
+            _ => return self.idle(),
         }
     }
 

@@ -4,7 +4,7 @@ use mathlib.Core.Bool.{Bool, true, false, cond}
 use mathlib.Core.List.{List, [], _∷_}
 use Prim.Native.Nat.{ℕ}
 use Rattle.device.specs.Search.{contains}
-use Rattle.protocol.specs.declared.handshake.OptionDevInfoResp.{OptionDevInfoResp}
+use Rattle.protocol.specs.declared.OptionDevInfoResp.{OptionDevInfoResp}
 use Rattle.protocol.specs.Stored.{content}
 use Rattle.device.specs.declared.model.DeviceModel.{DeviceModel}
 use Rattle.device.specs.declared.model.DeviceModel.the-variants.{Mevo, Xi}

@@ -7,7 +7,7 @@ use lib.Dec.{eqb}
 use Rattle.protocol.specs.Addr.{byteOf}
 use Rattle.protocol.specs.Ack.{ackOf}
 use Rattle.protocol.specs.Action.{noAction, sendTo}
-use Rattle.protocol.specs.declared.addr.BusAddr.{BusAddr}
+use Rattle.protocol.specs.declared.BusAddr.{BusAddr}
 use Rattle.protocol.specs.declared.Command.{Command}
 use Rattle.protocol.specs.declared.Action.{Action}
 use Rattle.device.specs.Model.{hasCamera}

@@ -3,8 +3,8 @@ ghost use mathlib.Core.Path.{_≡_};
 ghost use Rattle.protocol.specs.Stored.{content};
 ghost use Rattle.device.specs.Model.{modelOf, modelIn, hasCamera, hasFactoryCal, hasPowerMode};
 use crate::search;
-use protocol::handshake::OptionDevInfoResp;
-use protocol::stored::Stored;
+use protocol::OptionDevInfoResp;
+use protocol::Stored;
 
 pub enum DeviceModel {
     // Mevo+ or Mevo Gen2: radar and camera

@@ -4,10 +4,10 @@ ghost use Rattle.device.specs.Sends.{isResult, resultAck, keepaliveFor, 
 ghost use Rattle.device.specs.declared.model.DeviceModel.{DeviceModel};
 use crate::model::DeviceModel;
 use protocol::Action;
+use protocol::BusAddr;
 use protocol::Command;
-use protocol::addr::BusAddr;
-use protocol::status::ConfigAck;
-use protocol::status::StatusPoll;
+use protocol::ConfigAck;
+use protocol::StatusPoll;
 
 const TYPE_FLIGHT_RESULT: u8 = 0xD4;
 

@@ -1,7 +1,7 @@
 -- What the calls of a disarm answer: refused with the lowest number that applies, or by the row at the step. There is no clock.
 -- Definitions only.
 -- Assumes nothing.
-use Rattle.protocol.specs.declared.refusal.Outcome.{Outcome}
+use Rattle.protocol.specs.declared.Outcome.{Outcome}
 use Rattle.protocol.specs.Action.{noAction}
 use Rattle.requests.specs.Requests.{avrConfigCmd}
 use mathlib.Core.Bool.{false}

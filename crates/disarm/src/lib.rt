@@ -3,18 +3,18 @@
 ghost use mathlib.Core.Path.{_≡_};
 ghost use mathlib.Core.List.{[]};
 ghost use denote.Ref.{now as held};
-ghost use Rattle.protocol.specs.declared.addr.BusAddr.{BusAddr};
-ghost use Rattle.protocol.specs.declared.refusal.Outcome.{Outcome};
+ghost use Rattle.protocol.specs.declared.BusAddr.{BusAddr};
+ghost use Rattle.protocol.specs.declared.Outcome.{Outcome};
 ghost use Rattle.protocol.specs.Action.{noAction};
 ghost use Rattle.sequence.specs.Events.{fed, plain};
 ghost use Rattle.disarm.specs.declared.DisarmStep.{DisarmStep};
 ghost use Rattle.disarm.specs.Table.{entry1, entry, sign};
 ghost use Rattle.disarm.specs.Answers.{begun, refused, advance, fedTo, armAt};
 use protocol::Action;
+use protocol::BusAddr;
 use protocol::Message;
-use protocol::addr::BusAddr;
-use protocol::refusal::Outcome;
-use protocol::refusal::Refusal;
+use protocol::Outcome;
+use protocol::Refusal;
 use requests::avr_config_cmd;
 
 pub enum DisarmStep {
@@ -82,10 +82,10 @@ impl DisarmSequencer {
     {
         match src {
             BusAddr::Avr => match message {
-                Message::ConfigAck(_) => DisarmSequencer::at(DisarmStep::WaitModeReset),
-                _ => self.idle(),
+                Message::ConfigAck(_) => return DisarmSequencer::at(DisarmStep::WaitModeReset),
+                _ => return self.idle(),
             },
-            _ => self.idle(),
+            _ => return self.idle(),
         }
     }
 

@@ -2,9 +2,9 @@
 -- Assumes nothing.
 use Prim.Native.Nat.{ℕ}
 use mathlib.Core.Bool.{Bool, true, false, cond}
-use Rattle.protocol.specs.declared.addr.BusAddr.{BusAddr}
-use Rattle.protocol.specs.declared.refusal.Outcome.{Outcome}
-use Rattle.protocol.specs.declared.status.OptionNack.{OptionNack}
+use Rattle.protocol.specs.declared.BusAddr.{BusAddr}
+use Rattle.protocol.specs.declared.Outcome.{Outcome}
+use Rattle.protocol.specs.declared.OptionNack.{OptionNack}
 use Rattle.protocol.specs.Action.{noAction}
 use Rattle.protocol.specs.Carried.{noNack}
 use Rattle.protocol.specs.Refusals.{outcome, lowest}

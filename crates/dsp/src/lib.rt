@@ -3,7 +3,7 @@
 // dsp_steps'.
 ghost use mathlib.Core.Path.{_≡_};
 ghost use denote.Ref.{now as held};
-ghost use Rattle.protocol.specs.declared.refusal.Outcome.{Outcome};
+ghost use Rattle.protocol.specs.declared.Outcome.{Outcome};
 ghost use Rattle.dsp.specs.Answers.{begun, fedTo, polled, accepted, refused, syncOf, finished, taken};
 use device::model::DeviceModel;
 use dsp_steps::DspMoved;
@@ -12,18 +12,18 @@ use dsp_steps::DspState;
 use dsp_steps::DspStep;
 use dsp_steps::OptionDspQueryResp;
 use protocol::Action;
+use protocol::BusAddr;
 use protocol::Command;
+use protocol::ConfigResp;
+use protocol::DevInfoResp;
+use protocol::DspStatus;
 use protocol::Message;
-use protocol::addr::BusAddr;
-use protocol::config::ConfigResp;
-use protocol::handshake::DevInfoResp;
-use protocol::handshake::ProdInfoResp;
-use protocol::refusal::Outcome;
-use protocol::refusal::Refusal;
-use protocol::status::DspStatus;
-use protocol::status::OptionNack;
-use protocol::status::StatusPoll;
-use protocol::stored::Stored;
+use protocol::OptionNack;
+use protocol::Outcome;
+use protocol::ProdInfoResp;
+use protocol::Refusal;
+use protocol::StatusPoll;
+use protocol::Stored;
 
 pub struct DspSequencer {
     pub state: DspState,
@@ -153,23 +153,23 @@ impl DspSequencer {
             Outcome::Accepted => match src {
                 BusAddr::Dsp => {
                     let state = self.state;
-                    accepted(
+                    return accepted(
                         state.feed(type_id, message, params, text, payload, now),
                         now,
-                    )
+                    );
                 }
                 _ => {
                     let mut seq = self;
                     seq.last = now;
                     let action = Action::none();
-                    DspFed {
+                    return DspFed {
                         outcome: Outcome::Accepted,
                         action: action,
                         seq: seq,
-                    }
+                    };
                 }
             },
-            Outcome::Refused(refusal) => self.refuse(refusal),
+            Outcome::Refused(refusal) => return self.refuse(refusal),
         }
     }
 

@@ -6,7 +6,7 @@ use device_calls::next::next;
 use dsp::DspFed;
 use dsp::DspSequencer;
 use dsp_steps::DspStep;
-use protocol::refusal::Outcome;
+use protocol::Outcome;
 use reading::call::Call;
 use reading::call::Calls;
 use reading::call::Feed;

@@ -3,7 +3,7 @@ use dsp::DspSync;
 use dsp_steps::DspReplies;
 use dsp_steps::OptionDspQueryResp;
 use dsp_steps::OptionDspStatus;
-use protocol::status::OptionNack;
+use protocol::OptionNack;
 use sequence::OptionInstant;
 use writing::fields;
 use writing::records;

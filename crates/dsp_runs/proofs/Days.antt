@@ -5,11 +5,11 @@ use mathlib.Core.Path.{_≡_, refl, sym, _∙_, ap}
 use mathlib.Core.Bool.{true, false, true≢false}
 use mathlib.Core.List.{List, [], _∷_, _++_}
 use lib.IntN.{ℤ}
-use Rattle.protocol.specs.declared.addr.BusAddr.{BusAddr}
+use Rattle.protocol.specs.declared.BusAddr.{BusAddr}
 use Rattle.protocol.specs.declared.Message.{Message}
-use Rattle.protocol.specs.declared.refusal.Outcome.{Outcome}
-use Rattle.protocol.specs.declared.status.DspStatus.{DspStatus}
-use Rattle.protocol.specs.declared.status.OptionNack.{OptionNack}
+use Rattle.protocol.specs.declared.Outcome.{Outcome}
+use Rattle.protocol.specs.declared.DspStatus.{DspStatus}
+use Rattle.protocol.specs.declared.OptionNack.{OptionNack}
 use Rattle.protocol.specs.Carried.{noNack}
 use Rattle.protocol.specs.Refusals.{outcome}
 use Rattle.protocol.specs.Stored.{stored}

@@ -5,8 +5,8 @@ use mathlib.Core.Path.{_≡_, refl, sym, ap, subst⁻¹, _∙_}
 use mathlib.Core.Bool.{Bool, true, false, cond, true≢false}
 use mathlib.Core.List.{List, [], _∷_}
 use lib.ListN.{length}
-use Rattle.protocol.specs.declared.refusal.Outcome.{Outcome}
-use Rattle.protocol.specs.declared.refusal.Outcome.the-variants.{Accepted, Refused}
+use Rattle.protocol.specs.declared.Outcome.{Outcome}
+use Rattle.protocol.specs.declared.Outcome.the-variants.{Accepted, Refused}
 use Rattle.protocol.specs.Kinds.{devInfoResp}
 use Rattle.protocol.proofs.StoredBytes.{content-stored}
 use Rattle.device.specs.declared.model.DeviceModel.{DeviceModel}

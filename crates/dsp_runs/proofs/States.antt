@@ -7,8 +7,8 @@ use mathlib.Core.Path.{_≡_, refl, ap, _∙_}
 use mathlib.Core.Bool.{Bool, true, false, cond}
 use mathlib.Core.List.{List, [], _∷_, _++_}
 use lib.ListN.{length, getD}
-use Rattle.protocol.specs.declared.status.OptionNack.{OptionNack}
-use Rattle.protocol.specs.declared.refusal.Outcome.{Outcome}
+use Rattle.protocol.specs.declared.OptionNack.{OptionNack}
+use Rattle.protocol.specs.declared.Outcome.{Outcome}
 use Rattle.protocol.specs.Carried.{noNack}
 use Rattle.device.specs.declared.model.DeviceModel.{DeviceModel}
 use Rattle.device.specs.Model.{hasPowerMode}

@@ -9,7 +9,7 @@ use mathlib.Core.Logic.{_↔_}
 use mathlib.Core.Bool.{Bool, true, false, cond, _&&_, true≢false}
 use mathlib.Core.List.{List, [], _∷_, _++_, nil≢cons}
 use lib.ListN.{length, getD}
-use Rattle.protocol.specs.declared.status.OptionNack.{OptionNack}
+use Rattle.protocol.specs.declared.OptionNack.{OptionNack}
 use Rattle.protocol.specs.Carried.{noNack}
 use Rattle.protocol.specs.Refusals.{outcome, lowest}
 use Rattle.device.specs.declared.model.DeviceModel.{DeviceModel}

@@ -5,7 +5,7 @@ use Prim.Native.Nat.{ℕ}
 use mathlib.Core.Path.{_≡_}
 use mathlib.Core.Bool.{Bool, true, false, cond, _&&_}
 use mathlib.Core.List.{List, [], _∷_}
-use Rattle.protocol.specs.declared.status.OptionNack.{OptionNack}
+use Rattle.protocol.specs.declared.OptionNack.{OptionNack}
 use Rattle.protocol.specs.Carried.{noNack}
 use Rattle.protocol.specs.Kinds.{devInfoResp}
 use Rattle.protocol.specs.Refusals.{outcome}

@@ -3,7 +3,7 @@
 use Prim.Native.Nat.{ℕ}
 use mathlib.Core.List.{List}
 use lib.IntN.{ℤ}
-use Rattle.protocol.specs.declared.addr.BusAddr.{BusAddr}
+use Rattle.protocol.specs.declared.BusAddr.{BusAddr}
 use Rattle.protocol.specs.declared.Message.{Message}
 use Rattle.device.specs.declared.model.DeviceModel.{DeviceModel}
 use Rattle.device.specs.Model.{modelIn}

@@ -7,12 +7,12 @@ use mathlib.Core.List.{List, []}
 use lib.Dec.{eqb}
 use lib.IntN.{ℤ}
 use lib.ListN.{set, replicate}
-use Rattle.protocol.specs.declared.addr.BusAddr.{BusAddr}
-use Rattle.protocol.specs.declared.status.DspStatus.{DspStatus}
-use Rattle.protocol.specs.declared.status.DspStatus.the-variants.{V80, V46}
-use Rattle.protocol.specs.declared.status.OptionNack.{OptionNack}
-use Rattle.protocol.specs.declared.config.ParamData.{ParamData}
-use Rattle.protocol.specs.declared.handshake.ProdInfoResp.{ProdInfoResp}
+use Rattle.protocol.specs.declared.BusAddr.{BusAddr}
+use Rattle.protocol.specs.declared.DspStatus.{DspStatus}
+use Rattle.protocol.specs.declared.DspStatus.the-variants.{V80, V46}
+use Rattle.protocol.specs.declared.OptionNack.{OptionNack}
+use Rattle.protocol.specs.declared.ParamData.{ParamData}
+use Rattle.protocol.specs.declared.ProdInfoResp.{ProdInfoResp}
 use Rattle.protocol.specs.declared.Command.{Command}
 use Rattle.protocol.specs.declared.Action.{Action}
 use Rattle.protocol.specs.Action.{sendTo}

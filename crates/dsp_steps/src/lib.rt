@@ -5,7 +5,7 @@ ghost use mathlib.Core.List.{[]};
 ghost use Prim.Native.Nat.{_<_, _+_};
 ghost use denote.Ref.{now as held};
 ghost use Rattle.protocol.specs.Action.{noAction, sendTo};
-ghost use Rattle.protocol.specs.declared.addr.BusAddr.{BusAddr};
+ghost use Rattle.protocol.specs.declared.BusAddr.{BusAddr};
 ghost use Rattle.protocol.specs.Carried.{noDspStatus};
 ghost use Rattle.protocol.specs.declared.Command.{Command};
 ghost use Rattle.protocol.specs.declared.Message.{Message};
@@ -18,23 +18,23 @@ ghost use Rattle.dsp_steps.specs.Table.{entry1, entry2, entry3, entry4, 
 ghost use Rattle.dsp_steps.specs.Answers.{begun, view, made, answered, sent, armAt};
 use device::model::DeviceModel;
 use protocol::Action;
+use protocol::BusAddr;
 use protocol::Command;
+use protocol::ConfigAck;
+use protocol::ConfigResp;
+use protocol::DevInfoResp;
+use protocol::DspQueryResp;
+use protocol::DspStatus;
+use protocol::DspStatus80;
 use protocol::Message;
-use protocol::addr::BusAddr;
-use protocol::config::ConfigResp;
-use protocol::config::OptionConfigResp;
-use protocol::config::ParamData;
-use protocol::config::ParamValue;
-use protocol::handshake::DevInfoResp;
-use protocol::handshake::DspQueryResp;
-use protocol::handshake::OptionDevInfoResp;
-use protocol::handshake::ProdInfoReq;
-use protocol::handshake::ProdInfoResp;
-use protocol::status::ConfigAck;
-use protocol::status::DspStatus;
-use protocol::status::DspStatus80;
-use protocol::status::OptionNack;
-use protocol::stored::Stored;
+use protocol::OptionConfigResp;
+use protocol::OptionDevInfoResp;
+use protocol::OptionNack;
+use protocol::ParamData;
+use protocol::ParamValue;
+use protocol::ProdInfoReq;
+use protocol::ProdInfoResp;
+use protocol::Stored;
 use sequence::OptionInstant;
 
 // How long a reply to the DSP query or the power-mode write is waited for, in nanoseconds.
@@ -281,10 +281,9 @@ impl DspState {
         match message {
             Message::ConfigNack(nack) => {
                 if nack.acked_cmd == DSP_QUERY {
-                    DspState::to_dev_info(self.replies)
-                } else {
-                    self.idle()
+                    return DspState::to_dev_info(self.replies);
                 }
+                return self.idle();
             }
             Message::DspQueryResp(r) => {
                 let mut replies = self.replies;
@@ -293,9 +292,9 @@ impl DspState {
                     value: r,
                 };
                 replies.hw_info = hw_info;
-                DspState::to_dev_info(replies)
+                return DspState::to_dev_info(replies);
             }
-            _ => self.idle(),
+            _ => return self.idle(),
         }
     }
 

@@ -35,8 +35,8 @@ use denote.Triple.Statement.{Contract, Triple}
 use denote.Triple.Spec.{Meets, tripleOf}
 use denote.Triple.Clauses.{Clauses, closing}
 use denote.Exit.{Kept, unchanged, yes}
-use Rattle.protocol.proofs.addr.BusAddr as B
-use Rattle.protocol.proofs.addr.BusAddr.Laws as B′
+use Rattle.protocol.proofs.BusAddr as B
+use Rattle.protocol.proofs.BusAddr.Laws as B′
 use Rattle.protocol.proofs.Message as G
 use Rattle.protocol.proofs.Message.Laws as G′
 use Rattle.sequence.specs.Events as events

@@ -20,8 +20,8 @@ use dsp::DspFed;
 use dsp::DspSequencer;
 use pi::PiFed;
 use pi::PiSequencer;
+use protocol::BusAddr;
 use protocol::Message;
-use protocol::addr::BusAddr;
 
 pub struct Envelope<'a> {
     pub src: BusAddr,

@@ -19,7 +19,7 @@ use abi_states::c_avr_config::avr_config_out;
 use avr_config::AvrConfigFed;
 use avr_config::AvrConfigSequencer;
 use protocol::Action;
-use protocol::config::RadarCal;
+use protocol::RadarCal;
 use settings::AvrSettings;
 use settings::MAX_PARAMS;
 use settings::MevoSettings;

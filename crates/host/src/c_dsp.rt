@@ -23,11 +23,11 @@ use dsp::DspStarted;
 use dsp::DspSync;
 use dsp_steps::OptionDspQueryResp;
 use protocol::Action;
-use protocol::config::ConfigResp;
-use protocol::handshake::DevInfoResp;
-use protocol::handshake::ProdInfoResp;
-use protocol::status::OptionNack;
-use protocol::stored::Stored;
+use protocol::ConfigResp;
+use protocol::DevInfoResp;
+use protocol::OptionNack;
+use protocol::ProdInfoResp;
+use protocol::Stored;
 
 #[repr(C)]
 pub struct CDspFed {

@@ -1,18 +1,18 @@
 // The message of a kind, or the parts of a settings run, made of the values of their fields: a negative number by its two's complement,
 // a bool as 0 or 1, a float by its bits.
+use protocol::AvrStatus;
+use protocol::CamConfig;
+use protocol::ConfigAck;
+use protocol::DspQueryResp;
+use protocol::DspStatus;
+use protocol::DspStatus46;
+use protocol::DspStatus80;
 use protocol::Message;
-use protocol::camera::CamConfig;
-use protocol::config::ModeSet;
-use protocol::config::ParamData;
-use protocol::config::ParamValue;
-use protocol::config::RadarCal;
-use protocol::handshake::DspQueryResp;
-use protocol::handshake::TimeSync;
-use protocol::status::AvrStatus;
-use protocol::status::ConfigAck;
-use protocol::status::DspStatus;
-use protocol::status::DspStatus46;
-use protocol::status::DspStatus80;
+use protocol::ModeSet;
+use protocol::ParamData;
+use protocol::ParamValue;
+use protocol::RadarCal;
+use protocol::TimeSync;
 use words::kinds::CONFIG_RESP;
 use words::kinds::FLOAT40;
 use words::kinds::NUMBERS;

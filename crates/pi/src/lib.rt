@@ -6,24 +6,24 @@ ghost use Prim.Native.Nat.{_+_};
 ghost use lib.ListN.{take, drop};
 ghost use Rattle.protocol.specs.Stored.{stored};
 ghost use denote.Ref.{now as held};
-ghost use Rattle.protocol.specs.declared.addr.BusAddr.{BusAddr};
-ghost use Rattle.protocol.specs.declared.refusal.Outcome.{Outcome};
+ghost use Rattle.protocol.specs.declared.BusAddr.{BusAddr};
+ghost use Rattle.protocol.specs.declared.Outcome.{Outcome};
 ghost use Rattle.sequence.specs.Rows.{idle, past};
 ghost use Rattle.pi.specs.declared.PiStep.{PiStep};
 ghost use Rattle.pi.specs.Stores.{noReplies, firstZero};
 ghost use Rattle.pi.specs.Table.{entry1, entry2, entry4, entry5, entry6, entry7, paramEntry, paramRow, next};
 ghost use Rattle.pi.specs.Answers.{begun, view, made, refused, advance, armAt, sent, fedTo, syncOf, finished};
 use protocol::Action;
+use protocol::BusAddr;
+use protocol::CamConfig;
 use protocol::Command;
+use protocol::DevInfoResp;
 use protocol::Message;
-use protocol::addr::BusAddr;
-use protocol::camera::CamConfig;
-use protocol::handshake::DevInfoResp;
-use protocol::handshake::OptionDevInfoResp;
-use protocol::refusal::Outcome;
-use protocol::refusal::Refusal;
-use protocol::status::StatusPoll;
-use protocol::stored::Stored;
+use protocol::OptionDevInfoResp;
+use protocol::Outcome;
+use protocol::Refusal;
+use protocol::StatusPoll;
+use protocol::Stored;
 use requests::net_config_req;
 use requests::param_read_req;
 
@@ -362,10 +362,10 @@ impl PiSequencer {
         let outcome = sequence::accept_bytes(text, payload);
         match outcome {
             Outcome::Accepted => match src {
-                BusAddr::Pi => self.feed_pi(type_id, message, text, payload),
-                _ => self.idle(),
+                BusAddr::Pi => return self.feed_pi(type_id, message, text, payload),
+                _ => return self.idle(),
             },
-            Outcome::Refused(refusal) => self.refuse(refusal),
+            Outcome::Refused(refusal) => return self.refuse(refusal),
         }
     }
 

@@ -1,5 +1,5 @@
 // Writes a camera's configuration, in three parts: a layout has at most ten fields.
-use protocol::camera::CamConfig;
+use protocol::CamConfig;
 use writing::fields;
 use writing::fields::FIELDS;
 use writing::write::OUT;

@@ -7,7 +7,7 @@ use device_calls::next::next;
 use pi::PiFed;
 use pi::PiSequencer;
 use pi::PiStep;
-use protocol::refusal::Outcome;
+use protocol::Outcome;
 use reading::call::Call;
 use reading::call::Calls;
 use reading::call::Feed;

@@ -3,7 +3,7 @@ use crate::camera;
 use pi::OptionCamConfig;
 use pi::PiReplies;
 use pi::PiSync;
-use protocol::stored::Stored;
+use protocol::Stored;
 use writing::fields;
 use writing::records;
 use writing::write;

@@ -5,12 +5,12 @@ use Prim.Native.Nat.{ℕ}
 use mathlib.Core.Path.{_≡_, refl, sym, _∙_, ap}
 use mathlib.Core.Bool.{true, false, true≢false}
 use mathlib.Core.List.{List, [], _∷_, _++_}
-use Rattle.protocol.specs.declared.addr.BusAddr.{BusAddr}
+use Rattle.protocol.specs.declared.BusAddr.{BusAddr}
 use Rattle.protocol.specs.declared.Message.{Message}
-use Rattle.protocol.specs.declared.camera.CamConfig.{CamConfig}
-use Rattle.protocol.specs.declared.config.ParamData.{ParamData}
+use Rattle.protocol.specs.declared.CamConfig.{CamConfig}
+use Rattle.protocol.specs.declared.ParamData.{ParamData}
 use lib.IntN.{ℤ}
-use Rattle.protocol.specs.declared.refusal.Outcome.{Outcome}
+use Rattle.protocol.specs.declared.Outcome.{Outcome}
 use Rattle.protocol.specs.Refusals.{outcome}
 use Rattle.protocol.specs.Stored.{stored}
 use Rattle.matching.specs.Promise.{afterAll, events, Matched, First}

@@ -11,11 +11,11 @@ use denote.Enum.Declared as Declared
 use borrow.Author.Tests.{ne-eqb}
 use Rattle.protocol.specs.declared.Message.{Message}
 use Rattle.protocol.specs.declared.Message.the-variants as Msg
-use Rattle.protocol.specs.declared.addr.BusAddr.{BusAddr}
-use Rattle.protocol.specs.declared.addr.BusAddr.the-variants.{App, Pi, Avr, Dsp}
+use Rattle.protocol.specs.declared.BusAddr.{BusAddr}
+use Rattle.protocol.specs.declared.BusAddr.the-variants.{App, Pi, Avr, Dsp}
 use Rattle.protocol.specs.Addr.{byteOf}
 use Rattle.protocol.specs.Kinds.{tag}
-use Rattle.protocol.proofs.addr.BusAddr as bus
+use Rattle.protocol.proofs.BusAddr as bus
 use Rattle.protocol.proofs.Message as message
 
 -- one of the keys ks, of which k is none, is not k

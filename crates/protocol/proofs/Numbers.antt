@@ -5,9 +5,9 @@ use mathlib.Core.Bool.{Bool, true, false}
 use mathlib.Core.List.{List, [], _∷_}
 use Prim.Native.Nat.{ℕ, _≤_, _<_}
 use native.Mathlib.Nat.{le-refl, le-trans, le-of-lt}
-use Rattle.protocol.specs.declared.refusal.Refusal.{Refusal}
-use Rattle.protocol.specs.declared.refusal.Refusal.the-variants.{TextTooLong, PayloadTooLong, ReadingTooLarge, TooManyParams, ReadingBelowLast, NotDone, RetriesFull}
-use Rattle.protocol.specs.declared.refusal.Outcome.the-variants.{Refused}
+use Rattle.protocol.specs.declared.Refusal.{Refusal}
+use Rattle.protocol.specs.declared.Refusal.the-variants.{TextTooLong, PayloadTooLong, ReadingTooLarge, TooManyParams, ReadingBelowLast, NotDone, RetriesFull}
+use Rattle.protocol.specs.declared.Outcome.the-variants.{Refused}
 use Rattle.protocol.specs.Refusals.{number, outcome, Applies, lowest}
 
 pub outcome-number : (r : Refusal) → outcome (number r) ≡ Refused r

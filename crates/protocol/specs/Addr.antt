@@ -1,8 +1,8 @@
 -- The bytes of the devices on the unit's bus. Definitions only.
 -- Assumes nothing.
 use Prim.Native.Nat.{ℕ}
-use Rattle.protocol.specs.declared.addr.BusAddr.{BusAddr}
-use Rattle.protocol.specs.declared.addr.BusAddr.the-variants.{App, Pi, Avr, Dsp}
+use Rattle.protocol.specs.declared.BusAddr.{BusAddr}
+use Rattle.protocol.specs.declared.BusAddr.the-variants.{App, Pi, Avr, Dsp}
 
 abbrev pub byteOf : BusAddr → ℕ
 byteOf App = 0x10

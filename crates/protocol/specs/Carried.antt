@@ -3,14 +3,14 @@
 use mathlib.Core.Bool.{false}
 use lib.Ieee.{binary64, ofBits}
 use lib.IntN.{ℤ}
-use Rattle.protocol.specs.declared.addr.BusAddr.{BusAddr}
-use Rattle.protocol.specs.declared.camera.CamConfig.{CamConfig}
-use Rattle.protocol.specs.declared.status.ConfigAck.{ConfigAck}
-use Rattle.protocol.specs.declared.status.OptionNack.{OptionNack}
-use Rattle.protocol.specs.declared.status.DspStatus80.{DspStatus80}
-use Rattle.protocol.specs.declared.status.DspStatus.{DspStatus}
-use Rattle.protocol.specs.declared.status.AvrStatus.{AvrStatus}
-use Rattle.protocol.specs.declared.handshake.DspQueryResp.{DspQueryResp}
+use Rattle.protocol.specs.declared.BusAddr.{BusAddr}
+use Rattle.protocol.specs.declared.CamConfig.{CamConfig}
+use Rattle.protocol.specs.declared.ConfigAck.{ConfigAck}
+use Rattle.protocol.specs.declared.OptionNack.{OptionNack}
+use Rattle.protocol.specs.declared.DspStatus80.{DspStatus80}
+use Rattle.protocol.specs.declared.DspStatus.{DspStatus}
+use Rattle.protocol.specs.declared.AvrStatus.{AvrStatus}
+use Rattle.protocol.specs.declared.DspQueryResp.{DspQueryResp}
 use Rattle.protocol.specs.declared.Message.{Message}
 use Rattle.protocol.specs.declared.Message.the-variants as Msg
 

@@ -4,10 +4,10 @@ use Prim.Native.Nat.{ℕ}
 use mathlib.Core.Bool.{Bool, cond}
 use mathlib.Core.List.{List, [], _∷_}
 use lib.Dec.{eqb}
-use Rattle.protocol.specs.declared.refusal.Refusal.{Refusal}
-use Rattle.protocol.specs.declared.refusal.Refusal.the-variants.{TextTooLong, PayloadTooLong, ReadingTooLarge, TooManyParams, ReadingBelowLast, NotDone, RetriesFull}
-use Rattle.protocol.specs.declared.refusal.Outcome.{Outcome}
-use Rattle.protocol.specs.declared.refusal.Outcome.the-variants.{Accepted, Refused}
+use Rattle.protocol.specs.declared.Refusal.{Refusal}
+use Rattle.protocol.specs.declared.Refusal.the-variants.{TextTooLong, PayloadTooLong, ReadingTooLarge, TooManyParams, ReadingBelowLast, NotDone, RetriesFull}
+use Rattle.protocol.specs.declared.Outcome.{Outcome}
+use Rattle.protocol.specs.declared.Outcome.the-variants.{Accepted, Refused}
 
 abbrev pub number : Refusal → ℕ
 -- a feed whose text exceeds 256 bytes

@@ -3,7 +3,7 @@
 use Prim.Native.Nat.{ℕ, _-_, min}
 use mathlib.Core.List.{List, _++_}
 use lib.ListN.{length, take, replicate}
-use Rattle.protocol.specs.declared.stored.Stored.{Stored}
+use Rattle.protocol.specs.declared.Stored.{Stored}
 
 -- s itself, or its first 256 bytes where it is longer; then zeros, to 256 bytes in all
 unfoldable pub stored : List ℕ → Stored

@@ -1,17 +1,7 @@
-// Bus addresses of the unit's internal network (src/addr.rs).
+// The byte of a bus address.
 ghost use mathlib.Core.Path.{_≡_};
 ghost use Rattle.protocol.specs.Addr.{byteOf};
-
-pub enum BusAddr {
-    // the client application
-    App,
-    // the camera's Raspberry Pi
-    Pi,
-    // the AVR microcontroller (radar I/O, battery)
-    Avr,
-    // the digital signal processor (radar core)
-    Dsp,
-}
+use crate::BusAddr;
 
 impl BusAddr {
     pub fn as_byte(self) -> u8

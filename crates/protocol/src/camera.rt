@@ -1,36 +1,7 @@
-// The camera's configuration (src/protocol/camera.rs).
+// The camera configuration that stands where none has come.
 ghost use mathlib.Core.Path.{_≡_};
 ghost use Rattle.protocol.specs.Carried.{noCamConfig};
-
-#[repr(C)]
-pub struct CamConfig {
-    pub dynamic_config: bool,
-    pub resolution_width: i16,
-    pub resolution_height: i16,
-    pub rotation: i16,
-    pub ev: i16,
-    pub quality: u8,
-    pub framerate: u8,
-    pub streaming_framerate: u8,
-    pub ringbuffer_pretime_ms: i16,
-    pub ringbuffer_posttime_ms: i16,
-    pub raw_camera_mode: u8,
-    pub fusion_camera_mode: bool,
-    pub raw_shutter_speed_max: f64,
-    pub raw_ev_roi_x: i16,
-    pub raw_ev_roi_y: i16,
-    pub raw_ev_roi_width: i16,
-    pub raw_ev_roi_height: i16,
-    pub raw_x_offset: i16,
-    pub raw_bin44: bool,
-    pub raw_live_preview_write_interval_ms: i16,
-    pub raw_y_offset: i16,
-    pub buffer_sub_sampling_pre_trigger_div: i16,
-    pub buffer_sub_sampling_post_trigger_div: i16,
-    pub buffer_sub_sampling_switch_time_offset: f64,
-    pub buffer_sub_sampling_total_buffer_size: i16,
-    pub buffer_sub_sampling_pre_trigger_buffer_size: i16,
-}
+use crate::CamConfig;
 
 impl CamConfig {
     pub fn none() -> CamConfig

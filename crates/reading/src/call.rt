@@ -4,7 +4,7 @@ use crate::cursor::Span;
 use crate::cursor::choice;
 use crate::settings::Settings;
 use device::model::DeviceModel;
-use protocol::addr::BusAddr;
+use protocol::BusAddr;
 use scanning::bytes::BYTES;
 use scanning::reasons;
 use words::MODELS;

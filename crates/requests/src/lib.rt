@@ -2,14 +2,14 @@
 ghost use mathlib.Core.Path.{_≡_};
 ghost use Rattle.requests.specs.Requests.{statusPoll, paramReadReq, netConfigReq, calDataReq, timeSync, avrConfigCmd};
 use protocol::Action;
+use protocol::AvrConfigCmd;
+use protocol::BusAddr;
+use protocol::CalDataReq;
 use protocol::Command;
-use protocol::addr::BusAddr;
-use protocol::config::AvrConfigCmd;
-use protocol::config::ParamReadReq;
-use protocol::handshake::CalDataReq;
-use protocol::handshake::NetConfigReq;
-use protocol::handshake::TimeSync;
-use protocol::status::StatusPoll;
+use protocol::NetConfigReq;
+use protocol::ParamReadReq;
+use protocol::StatusPoll;
+use protocol::TimeSync;
 
 pub fn status_poll(pi_mode: bool, dest: BusAddr) -> Action
     ensures { λ r. ⌜ r ≡ statusPoll «pi_mode» dest ⌝ }

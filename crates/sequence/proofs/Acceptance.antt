@@ -9,9 +9,9 @@ use lib.Dec.{ltb}
 use lib.ListN.{length}
 use borrow.Author.Tests.{ltb-false}
 use Rattle.protocol.specs.Refusals.{Applies, outcome, lowest}
-use Rattle.protocol.specs.declared.refusal.Refusal.{Refusal}
-use Rattle.protocol.specs.declared.refusal.Outcome.{Outcome}
-use Rattle.protocol.specs.declared.refusal.Outcome.the-variants.{Accepted, Refused}
+use Rattle.protocol.specs.declared.Refusal.{Refusal}
+use Rattle.protocol.specs.declared.Outcome.{Outcome}
+use Rattle.protocol.specs.declared.Outcome.the-variants.{Accepted, Refused}
 use Rattle.protocol.proofs.Numbers.{Rises, end, then, Listed, lowest-least}
 use Rattle.sequence.specs.Accepted.{applies, none, bytesRefusals, checkRefusals, feedRefusals}
 

@@ -8,7 +8,7 @@ use mathlib.Core.List.{List, []}
 use Prim.Native.Nat.{ℕ, suc, _≤_, _<_}
 use native.Mathlib.Omega.{arith}
 use lib.ListN.{length, getD}
-use Rattle.protocol.specs.declared.refusal.Outcome.{Outcome}
+use Rattle.protocol.specs.declared.Outcome.{Outcome}
 use Rattle.matching.specs.Promise.{Each, clock, Ends}
 use Rattle.matching.proofs.Machine.{tickedFrom}
 use Rattle.matching.proofs.Called.{Called}

@@ -5,7 +5,7 @@ use mathlib.Core.Bool.{Bool, true, not, _&&_}
 use mathlib.Core.List.{List, [], _∷_, _++_}
 use lib.Dec.{ltb}
 use lib.ListN.{length}
-use Rattle.protocol.specs.declared.refusal.Outcome.{Outcome}
+use Rattle.protocol.specs.declared.Outcome.{Outcome}
 use Rattle.protocol.specs.Refusals.{Applies, lowest, outcome}
 
 abbrev pub applies : ℕ → Bool → Applies

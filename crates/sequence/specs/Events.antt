@@ -5,7 +5,7 @@ use mathlib.Core.Bool.{Bool, false, _&&_, _||_}
 use mathlib.Core.List.{List, []}
 use lib.Dec.{leb, eqb}
 use lib.IntN.{ℤ}
-use Rattle.protocol.specs.declared.addr.BusAddr.{BusAddr}
+use Rattle.protocol.specs.declared.BusAddr.{BusAddr}
 use Rattle.protocol.specs.declared.Message.{Message}
 use Rattle.protocol.specs.Addr.{byteOf}
 use Rattle.protocol.specs.Carried.{carried}

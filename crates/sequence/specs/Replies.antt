@@ -4,8 +4,8 @@ use mathlib.Core.Bool.{true, false}
 use mathlib.Core.List.{[]}
 use lib.IntN.{ℤ}
 use lib.ListN.{replicate}
-use Rattle.protocol.specs.declared.config.OptionConfigResp.{OptionConfigResp}
-use Rattle.protocol.specs.declared.handshake.OptionDevInfoResp.{OptionDevInfoResp}
+use Rattle.protocol.specs.declared.OptionConfigResp.{OptionConfigResp}
+use Rattle.protocol.specs.declared.OptionDevInfoResp.{OptionDevInfoResp}
 use Rattle.protocol.specs.Stored.{stored}
 use Rattle.sequence.specs.Events.{Envelope, Event, fed, checked}
 

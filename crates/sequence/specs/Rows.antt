@@ -5,8 +5,8 @@ use Prim.Native.Nat.{ℕ, _+_}
 use mathlib.Core.Bool.{Bool, true, false, cond, _&&_}
 use lib.Dec.{leb}
 use Rattle.protocol.specs.declared.Action.{Action}
-use Rattle.protocol.specs.declared.refusal.Outcome.{Outcome}
-use Rattle.protocol.specs.declared.refusal.Outcome.the-variants.{Accepted, Refused}
+use Rattle.protocol.specs.declared.Outcome.{Outcome}
+use Rattle.protocol.specs.declared.Outcome.the-variants.{Accepted, Refused}
 use Rattle.protocol.specs.Action.{noAction}
 use Rattle.matching.specs.Matching.{Entry}
 use Rattle.sequence.specs.declared.OptionInstant.{OptionInstant}

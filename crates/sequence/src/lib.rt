@@ -4,8 +4,8 @@ ghost use Rattle.protocol.specs.Refusals.{outcome, lowest};
 ghost use Rattle.sequence.specs.Accepted.{bytesRefusals, feedRefusals, checkRefusals};
 ghost use Rattle.sequence.specs.Rows.{noDeadline, deadlineAt};
 ghost use denote.Ref.{now as held};
-use protocol::refusal::Outcome;
-use protocol::refusal::Refusal;
+use protocol::Outcome;
+use protocol::Refusal;
 
 // The largest text or payload, in bytes.
 const MAX_LEN: usize = 256;

@@ -5,8 +5,8 @@ use mathlib.Core.Bool.{true, false, cond}
 use mathlib.Core.List.{List, [], _∷_, _++_}
 use lib.IntN.{ℤ}
 use lib.ListN.{take, replicate}
-use Rattle.protocol.specs.declared.config.ParamData.{ParamData}
-use Rattle.protocol.specs.declared.config.ParamValue.{ParamValue}
+use Rattle.protocol.specs.declared.ParamData.{ParamData}
+use Rattle.protocol.specs.declared.ParamValue.{ParamValue}
 use Rattle.settings.specs.declared.OptionRadarCal.{OptionRadarCal}
 use Rattle.settings.specs.declared.AvrSettings.{AvrSettings}
 use Rattle.settings.specs.declared.MevoSettings.{MevoSettings}

@@ -1,9 +1,9 @@
 // The settings of an AVR configuration (src/seq.rs, "Phase 4").
 ghost use mathlib.Core.Path.{_≡_};
 ghost use Rattle.settings.specs.Settings.{noParam, noCal, modeOnly, mevoParams, fromMevo, keptParams, keptCal, kept};
-use protocol::config::ParamData;
-use protocol::config::ParamValue;
-use protocol::config::RadarCal;
+use protocol::ParamData;
+use protocol::ParamValue;
+use protocol::RadarCal;
 
 // The most parameters of a settings list.
 pub const MAX_PARAMS: usize = 32;

@@ -5,12 +5,12 @@ use mathlib.Core.Path.{_≡_, refl}
 use mathlib.Core.Bool.{true, false}
 use mathlib.Core.List.{List, [], _∷_, map}
 use Prim.Native.Nat.{ℕ}
-use Rattle.protocol.specs.declared.addr.BusAddr.{BusAddr}
-use Rattle.protocol.specs.declared.status.DspStatus.{DspStatus}
+use Rattle.protocol.specs.declared.BusAddr.{BusAddr}
+use Rattle.protocol.specs.declared.DspStatus.{DspStatus}
 use Rattle.protocol.specs.declared.Command.{Command}
 use Rattle.protocol.specs.declared.Message.{Message}
 use Rattle.protocol.specs.declared.Action.{Action}
-use Rattle.protocol.specs.declared.stored.Stored.{Stored}
+use Rattle.protocol.specs.declared.Stored.{Stored}
 use Rattle.protocol.specs.Stored.{stored}
 use Rattle.protocol.specs.Action.{noAction, sendTo}
 use Rattle.device.specs.declared.model.DeviceModel.{DeviceModel}

@@ -2,7 +2,7 @@
 // semicolon at the end.
 use crate::write;
 use crate::write::OUT;
-use protocol::stored::Stored;
+use protocol::Stored;
 use words::byte_at;
 use words::find;
 use words::low_byte;

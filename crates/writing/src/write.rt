@@ -1,6 +1,6 @@
 // Bytes, texts and numbers.
 use device::model::DeviceModel;
-use protocol::addr::BusAddr;
+use protocol::BusAddr;
 use words::MODELS;
 use words::SOURCES;
 use words::find;

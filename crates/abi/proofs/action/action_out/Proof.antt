@@ -4,7 +4,7 @@ use borrow.Author.Needs.{needs}
 use Rattle.abi.proofs.action.action_out.Statement.{statement}
 use Rattle.abi.proofs.action.action_out.Tie as tie
 use Rattle.abi.proofs.action.command_out.Reads as command-out-reads
-use Rattle.protocol.proofs.addr.BusAddr.as_byte.Reads as as-byte-reads
+use Rattle.protocol.proofs.BusAddr.as_byte.Reads as as-byte-reads
 
 command-out-requires : tie.Need-command-out-requires
 command-out-requires c κs = search needs

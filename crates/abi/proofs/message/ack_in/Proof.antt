@@ -4,20 +4,12 @@ use borrow.Author.Tests.{eq-eqb, ne-eqb}
 use borrow.Author.Needs.{needs}
 use Rattle.abi.proofs.message.ack_in.Statement.{statement}
 use Rattle.abi.proofs.message.ack_in.Tie as tie
-use Rattle.abi.proofs.message.known.Reads as known-reads
-use Rattle.abi.proofs.message.record_in.Reads as record-in-reads
-
-known-requires : tie.Need-known-requires
-known-requires c κs = search needs
 
 returns : tie.Need-returns
-returns c = rw (c .known .ensures, eq-eqb _ _ (c .before .if1 .taken))
-
-known-requires-2 : tie.Need-known-requires-2
-known-requires-2 c κs = search needs
+returns c = rw (eq-eqb _ _ (c .if1 .taken))
 
 returns-2 : tie.Need-returns-2
-returns-2 c = rw (c .known2 .ensures, eq-eqb _ _ (c .before .if2 .taken), ne-eqb _ _ (c .before .before .before .if1 .left))
+returns-2 c = rw (eq-eqb _ _ (c .if2 .taken), ne-eqb _ _ (c .before .before .if1 .left))
 
 record-in-requires : tie.Need-record-in-requires
 record-in-requires c κs = search needs
@@ -26,6 +18,4 @@ returns-3 : tie.Need-returns-3
 returns-3 c = rw (c .record-in .ensures, ne-eqb _ _ (c .before .if2 .left), ne-eqb _ _ (c .before .before .before .if1 .left))
 
 pub ack-in-spec : {M : Type 1} → statement M
-ack-in-spec =
-    tie.close
-    (tie.spec known-requires returns known-requires-2 returns-2 record-in-requires returns-3)
+ack-in-spec = tie.close (tie.spec returns returns-2 record-in-requires returns-3)

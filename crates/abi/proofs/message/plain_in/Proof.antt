@@ -1,29 +1,38 @@
 -- `plain_in` meets its contract.
 -- Assumes nothing.
-use mathlib.Core.Path.{ap}
-use Rattle.abi.proofs.Tables.{within}
+use mathlib.Core.Path.{_≡_, refl, _∙_}
+use mathlib.Core.Bool.{Bool, true, false, cond}
+use mathlib.Core.List.{[], _∷_}
+use lib.Dec.{ltb}
+use Rattle.protocol.specs.declared.Message.the-variants as Msg
+use Rattle.abi.proofs.Tables.{kept, clear}
 use Rattle.abi.specs.Messages.{knownMessage, plainKinds}
-use borrow.Author.Tests.{le-ltb, lt-ltb}
-use borrow.Author.Needs.{needs}
 use Rattle.abi.proofs.message.plain_in.Statement.{statement}
 use Rattle.abi.proofs.message.plain_in.Tie as tie
-use Rattle.abi.proofs.message.known.Reads as known-reads
 
-mul-value : tie.Need-mul-value
-mul-value c = search needs
+-- known or not, it is no other
+other : (b : Bool) → Msg.Other ≡ cond b (knownMessage Msg.Other) (record { known = false; value = Msg.Other }) .value
+other true = refl
+other false = refl
 
-array-copy-out-value : tie.Need-array-copy-out-value
-array-copy-out-value c = search needs
-
-known-requires : tie.Need-known-requires
-known-requires c κs = search needs
-
-returns : tie.Need-returns
-returns c = rw (c .known .ensures, lt-ltb _ _ (c .before .before .if1 .taken)) (ap knownMessage (within plainKinds (c .before .before .before .args .kind) _ _ (c .before .before .if1 .taken)))
-
-returns-2 : tie.Need-returns-2
-returns-2 c = rw (le-ltb _ _ (c .if1 .left))
+-- the arms' kinds, the last first
+returns-11 : tie.Need-returns-11
+returns-11 c =
+    let k = c .before .args .kind in
+    rw (kept plainKinds Msg.Other k (17 ∷ 16 ∷ 15 ∷ 14 ∷ 13 ∷ 11 ∷ 10 ∷ 6 ∷ 5 ∷ 2 ∷ []) (c .match .rest) ∙ clear 21 k Msg.Other) (other (ltb k 21))
 
 pub plain-in-spec : {M : Type 1} → statement M
 plain-in-spec =
-    tie.close (tie.spec mul-value array-copy-out-value known-requires returns returns-2)
+    tie.close
+    (tie.spec
+    (λ c. rw (c .match .keys1))
+    (λ c. rw (c .match .keys2))
+    (λ c. rw (c .match .keys3))
+    (λ c. rw (c .match .keys4))
+    (λ c. rw (c .match .keys5))
+    (λ c. rw (c .match .keys6))
+    (λ c. rw (c .match .keys7))
+    (λ c. rw (c .match .keys8))
+    (λ c. rw (c .match .keys9))
+    (λ c. rw (c .match .keys10))
+    returns-11)

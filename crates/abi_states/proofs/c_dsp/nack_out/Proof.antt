@@ -3,7 +3,7 @@
 use borrow.Author.Needs.{needs}
 use Rattle.abi_states.proofs.c_dsp.nack_out.Statement.{statement}
 use Rattle.abi_states.proofs.c_dsp.nack_out.Tie as tie
-use Rattle.protocol.proofs.addr.BusAddr.as_byte.Reads as as-byte-reads
+use Rattle.protocol.proofs.BusAddr.as_byte.Reads as as-byte-reads
 
 as-byte-requires : tie.Need-as-byte-requires
 as-byte-requires c κs = search needs

@@ -4,7 +4,7 @@ use mathlib.Core.Path.{_≡_, sym, _∙_}
 use Rattle.protocol.proofs.Arms.{but, kinds, none-of}
 use mathlib.Core.Bool.{true, _||_, or-true, or-false}
 use denote.Ref.{now}
-use Rattle.protocol.specs.declared.addr.BusAddr.{BusAddr}
+use Rattle.protocol.specs.declared.BusAddr.{BusAddr}
 use Rattle.sequence.specs.Events.{plain}
 use Rattle.arm.specs.Answers.{piStatus, armed}
 use Rattle.arm.proofs.Steps.{gathers}

@@ -2,7 +2,7 @@
 -- Assumes nothing.
 use mathlib.Core.Path.{sym, ap, _∙_}
 use denote.Ref.{now}
-use Rattle.protocol.specs.declared.addr.BusAddr.{BusAddr}
+use Rattle.protocol.specs.declared.BusAddr.{BusAddr}
 use Rattle.protocol.proofs.Arms.{elsewhere}
 use Rattle.sequence.specs.Accepted.{feedOutcome}
 use Rattle.sequence.specs.Events.{fed}
@@ -31,15 +31,6 @@ feed-requires c κs = search needs
 accepted-requires : tie.Need-accepted-requires
 accepted-requires c κs = search needs
 
-none-requires : tie.Need-none-requires
-none-requires c κs = search needs
-
-enum-known-outcome : tie.Need-enum-known-outcome
-enum-known-outcome c = search needs
-
-refuse-requires : tie.Need-refuse-requires
-refuse-requires c κs = search needs
-
 returns : tie.Need-returns
 returns c = let a = c .before .before .before .before .before .before .before .before .before .before .args in
     let s = a .self in
@@ -55,6 +46,9 @@ returns c = let a = c .before .before .before .before .before .before .before .b
     c .accepted .ensures ∙ ap (λ (w : AvrMoved). accepted w t) (c .before .feed .ensures ∙ from)
     ∙ judged-accepted (feedOutcome (now (a .text)) (now (a .payload)) (s .last) t) (accepted (steps.answered (s .state) (fed (d (a .src)) t)) t) (refused s) o
 
+none-requires : tie.Need-none-requires
+none-requires c κs = search needs
+
 returns-2 : tie.Need-returns-2
 returns-2 c = let a = c .before .before .before .before .before .before .before .args in
     let s = a .self in
@@ -68,6 +62,12 @@ returns-2 c = let a = c .before .before .before .before .before .before .before 
     let o = sym (c .before .before .before .before .accept-feed .ensures) ∙ c .before .before .enum-told .given .1 in
     let still = foreign-idles (s .state) (d (a .src)) t (elsewhere BusAddr.Avr (a .src) (c .before .match2 .keys2)) in
     rw (c .none .ensures) (ap (λ (w : AvrMoved). accepted w t) still ∙ judged-accepted (feedOutcome (now (a .text)) (now (a .payload)) (s .last) t) (accepted (steps.answered (s .state) (fed (d (a .src)) t)) t) (refused s) o)
+
+enum-known-outcome : tie.Need-enum-known-outcome
+enum-known-outcome c = search needs
+
+refuse-requires : tie.Need-refuse-requires
+refuse-requires c κs = search needs
 
 returns-3 : tie.Need-returns-3
 returns-3 c = let a = c .before .before .before .before .before .before .before .args in
@@ -91,9 +91,9 @@ feed-spec =
     enum-told-2
     feed-requires
     accepted-requires
+    returns
     none-requires
+    returns-2
     enum-known-outcome
     refuse-requires
-    returns
-    returns-2
     returns-3)

@@ -3,7 +3,7 @@
 use mathlib.Core.Path.{sym, ap, _∙_}
 use mathlib.Core.List.{[]}
 use denote.Ref.{now}
-use Rattle.protocol.specs.declared.addr.BusAddr.{BusAddr}
+use Rattle.protocol.specs.declared.BusAddr.{BusAddr}
 use Rattle.protocol.proofs.Arms.{elsewhere}
 use Rattle.sequence.specs.Accepted.{bytesOutcome}
 use Rattle.sequence.specs.Events.{Envelope, fed, plain}
@@ -26,15 +26,6 @@ enum-told-2 c = search needs
 feed-avr-requires : tie.Need-feed-avr-requires
 feed-avr-requires c κs = search needs
 
-idle-requires : tie.Need-idle-requires
-idle-requires c κs = search needs
-
-enum-known-outcome : tie.Need-enum-known-outcome
-enum-known-outcome c = search needs
-
-refuse-requires : tie.Need-refuse-requires
-refuse-requires c κs = search needs
-
 returns : tie.Need-returns
 returns c = let a = c .before .before .before .before .before .before .before .before .args in
     let e : Envelope = record { src = a .src; type-id = a .type-id; message = a .message; params = []; text = now (a .text); payload = now (a .payload) } in
@@ -42,12 +33,21 @@ returns c = let a = c .before .before .before .before .before .before .before .b
     c .feed-avr .ensures ∙ ap (λ (b : BusAddr). advance (a .self) (fed (plain b (a .message) []) 0)) (sym (c .before .enum-told2 .given .1))
     ∙ unread (a .self .step) (a .self) e ∙ judged-accepted (bytesOutcome (now (a .text)) (now (a .payload))) (advance (a .self) (fed e 0)) (refused (a .self)) o
 
+idle-requires : tie.Need-idle-requires
+idle-requires c κs = search needs
+
 returns-2 : tie.Need-returns-2
 returns-2 c = let a = c .before .before .before .before .before .before .before .args in
     let e : Envelope = record { src = a .src; type-id = a .type-id; message = a .message; params = []; text = now (a .text); payload = now (a .payload) } in
     let o = sym (c .before .before .before .before .accept-bytes .ensures) ∙ c .before .before .enum-told .given .1 in
     c .idle .ensures ∙ idles (a .self .step) (a .self) e (foreign (a .self .step) (a .self .settings) e (elsewhere BusAddr.Avr (a .src) (c .before .match2 .keys2)))
     ∙ judged-accepted (bytesOutcome (now (a .text)) (now (a .payload))) (advance (a .self) (fed e 0)) (refused (a .self)) o
+
+enum-known-outcome : tie.Need-enum-known-outcome
+enum-known-outcome c = search needs
+
+refuse-requires : tie.Need-refuse-requires
+refuse-requires c κs = search needs
 
 returns-3 : tie.Need-returns-3
 returns-3 c = let a = c .before .before .before .before .before .before .before .args in
@@ -63,9 +63,9 @@ feed-spec =
     enum-told
     enum-told-2
     feed-avr-requires
+    returns
     idle-requires
+    returns-2
     enum-known-outcome
     refuse-requires
-    returns
-    returns-2
     returns-3)

@@ -13,8 +13,14 @@ enum-known-message c = search needs
 repoll-later-requires : tie.Need-repoll-later-requires
 repoll-later-requires c κs = search needs
 
+returns : tie.Need-returns
+returns c = c .repoll-later .ensures ∙ rw (c .before .before .before .before .message .given .1, eq-eqb _ _ (c .before .if1 .taken))
+
 idle-requires : tie.Need-idle-requires
 idle-requires c κs = search needs
+
+returns-2 : tie.Need-returns-2
+returns-2 c = c .idle .ensures ∙ rw (c .before .before .before .before .message .given .1, ne-eqb _ _ (c .before .if1 .left))
 
 enum-known-message-2 : tie.Need-enum-known-message-2
 enum-known-message-2 c = search needs
@@ -28,17 +34,11 @@ with-repoll-requires c κs = search needs
 moved-requires : tie.Need-moved-requires
 moved-requires c κs = search needs
 
-idle-requires-2 : tie.Need-idle-requires-2
-idle-requires-2 c κs = search needs
-
-returns : tie.Need-returns
-returns c = c .repoll-later .ensures ∙ rw (c .before .before .before .before .message .given .1, eq-eqb _ _ (c .before .if1 .taken))
-
-returns-2 : tie.Need-returns-2
-returns-2 c = c .idle .ensures ∙ rw (c .before .before .before .before .message .given .1, ne-eqb _ _ (c .before .if1 .left))
-
 returns-3 : tie.Need-returns-3
 returns-3 c = c .moved .ensures ∙ rw (c .before .before .before .before .before .message2 .given .1, c .before .with-repoll .ensures, c .before .before .none .ensures)
+
+idle-requires-2 : tie.Need-idle-requires-2
+idle-requires-2 c κs = search needs
 
 returns-4 : tie.Need-returns-4
 returns-4 c = let ks = but 0 (but 4 kinds) in
@@ -51,13 +51,13 @@ wait-status-spec =
     (tie.spec
     enum-known-message
     repoll-later-requires
+    returns
     idle-requires
+    returns-2
     enum-known-message-2
     none-requires
     with-repoll-requires
     moved-requires
-    idle-requires-2
-    returns
-    returns-2
     returns-3
+    idle-requires-2
     returns-4)

@@ -2,7 +2,7 @@
 -- Assumes nothing.
 use borrow.Author.Needs.{needs}
 use Rattle.protocol.proofs.Arms.{elsewhere}
-use Rattle.protocol.specs.declared.addr.BusAddr.{BusAddr}
+use Rattle.protocol.specs.declared.BusAddr.{BusAddr}
 use Rattle.device.proofs.sends.result_ack.Statement.{statement}
 use Rattle.device.proofs.sends.result_ack.Tie as tie
 

@@ -35,12 +35,12 @@ use denote.Triple.Table.{entered, cited}
 use denote.Triple.Walked.{says, Stays, stay-ref, stay-dropped, walkOf, AllGo, goes-ref, goes-dropped, Walks, ends-at, walked, walk-meets}
 use denote.Triple.Clauses.{ensured, lasts}
 use denote.Exit.{yes}
-use Rattle.protocol.proofs.addr.BusAddr as B
-use Rattle.protocol.proofs.addr.BusAddr.Laws as B′
+use Rattle.protocol.proofs.BusAddr as B
+use Rattle.protocol.proofs.BusAddr.Laws as B′
 use Rattle.protocol.proofs.Message as G
 use Rattle.protocol.proofs.Message.Laws as G′
-use Rattle.protocol.proofs.refusal.Outcome as O
-use Rattle.protocol.proofs.refusal.Outcome.Laws as O′
+use Rattle.protocol.proofs.Outcome as O
+use Rattle.protocol.proofs.Outcome.Laws as O′
 use Rattle.protocol.proofs.Action as K
 use Rattle.protocol.proofs.Action.Laws as K′
 use Rattle.disarm.specs.Answers.{fedTo}

@@ -2,7 +2,7 @@
 -- Assumes nothing.
 use mathlib.Core.Path.{sym, ap, _∙_}
 use denote.Ref.{now}
-use Rattle.protocol.specs.declared.addr.BusAddr.{BusAddr}
+use Rattle.protocol.specs.declared.BusAddr.{BusAddr}
 use Rattle.protocol.proofs.Arms.{elsewhere}
 use Rattle.device.specs.Model.{modelIn}
 use Rattle.sequence.specs.Accepted.{feedOutcome}
@@ -32,15 +32,6 @@ feed-requires c κs = search needs
 accepted-requires : tie.Need-accepted-requires
 accepted-requires c κs = search needs
 
-none-requires : tie.Need-none-requires
-none-requires c κs = search needs
-
-enum-known-outcome : tie.Need-enum-known-outcome
-enum-known-outcome c = search needs
-
-refuse-requires : tie.Need-refuse-requires
-refuse-requires c κs = search needs
-
 returns : tie.Need-returns
 returns c = let a = c .before .before .before .before .before .before .before .before .before .before .args in
     let s = a .self in
@@ -52,6 +43,9 @@ returns c = let a = c .before .before .before .before .before .before .before .b
     let from = ap (λ (b : BusAddr). steps.advance (modelIn (s .state .replies .«dev_info»)) (s .state) (fed (e b) t)) (sym (c .before .before .before .enum-told2 .given .1)) in
     c .accepted .ensures ∙ ap (λ (w : DspMoved). accepted w t) (c .before .feed .ensures ∙ from)
     ∙ judged-accepted (feedOutcome (now (a .text)) (now (a .payload)) (s .last) t) (accepted (steps.advance (modelIn (s .state .replies .«dev_info»)) (s .state) (fed (e (a .src)) t)) t) (refused s) o
+
+none-requires : tie.Need-none-requires
+none-requires c κs = search needs
 
 returns-2 : tie.Need-returns-2
 returns-2 c = let a = c .before .before .before .before .before .before .before .args in
@@ -67,6 +61,12 @@ returns-2 c = let a = c .before .before .before .before .before .before .before 
     let still = ap (λ (w : DspMoved). accepted w t) (idles (row m k) (next m k) (row m (next m k)) (s .state) (fed (e (a .src)) t) none) in
     rw (c .none .ensures)
     (still ∙ judged-accepted (feedOutcome (now (a .text)) (now (a .payload)) (s .last) t) (accepted (steps.advance m (s .state) (fed (e (a .src)) t)) t) (refused s) o)
+
+enum-known-outcome : tie.Need-enum-known-outcome
+enum-known-outcome c = search needs
+
+refuse-requires : tie.Need-refuse-requires
+refuse-requires c κs = search needs
 
 returns-3 : tie.Need-returns-3
 returns-3 c = let a = c .before .before .before .before .before .before .before .args in
@@ -87,9 +87,9 @@ feed-spec =
     enum-told-2
     feed-requires
     accepted-requires
+    returns
     none-requires
+    returns-2
     enum-known-outcome
     refuse-requires
-    returns
-    returns-2
     returns-3)

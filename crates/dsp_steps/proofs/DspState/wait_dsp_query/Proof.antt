@@ -18,8 +18,15 @@ enum-known-message c = search needs
 to-dev-info-requires : tie.Need-to-dev-info-requires
 to-dev-info-requires c κs = search needs
 
+returns : tie.Need-returns
+returns c = c .to-dev-info .ensures ∙ rw (c .before .before .before .before .message .given .1, eq-eqb _ _ (c .before .if1 .taken))
+
 idle-requires : tie.Need-idle-requires
 idle-requires c κs = search needs
+
+returns-2 : tie.Need-returns-2
+returns-2 c = let a = c .before .before .before .before .before .before .args in
+    c .idle .ensures ∙ idles entry2 DspStep.WaitDevInfo entry3 (a .self) (sent 0 (a .message) [] [] [] (a .now)) (rw (c .before .before .before .before .message .given .1, ne-eqb _ _ (c .before .if1 .left)))
 
 enum-known-message-2 : tie.Need-enum-known-message-2
 enum-known-message-2 c = search needs
@@ -27,18 +34,11 @@ enum-known-message-2 c = search needs
 to-dev-info-requires-2 : tie.Need-to-dev-info-requires-2
 to-dev-info-requires-2 c κs = search needs
 
-idle-requires-2 : tie.Need-idle-requires-2
-idle-requires-2 c κs = search needs
-
-returns : tie.Need-returns
-returns c = c .to-dev-info .ensures ∙ rw (c .before .before .before .before .message .given .1, eq-eqb _ _ (c .before .if1 .taken))
-
-returns-2 : tie.Need-returns-2
-returns-2 c = let a = c .before .before .before .before .before .before .args in
-    c .idle .ensures ∙ idles entry2 DspStep.WaitDevInfo entry3 (a .self) (sent 0 (a .message) [] [] [] (a .now)) (rw (c .before .before .before .before .message .given .1, ne-eqb _ _ (c .before .if1 .left)))
-
 returns-3 : tie.Need-returns-3
 returns-3 c = c .to-dev-info2 .ensures ∙ rw (c .before .before .before .message2 .given .1)
+
+idle-requires-2 : tie.Need-idle-requires-2
+idle-requires-2 c κs = search needs
 
 returns-4 : tie.Need-returns-4
 returns-4 c = let a = c .before .before .args in
@@ -52,11 +52,11 @@ wait-dsp-query-spec =
     (tie.spec
     enum-known-message
     to-dev-info-requires
+    returns
     idle-requires
+    returns-2
     enum-known-message-2
     to-dev-info-requires-2
-    idle-requires-2
-    returns
-    returns-2
     returns-3
+    idle-requires-2
     returns-4)

@@ -14,7 +14,7 @@ use Rattle.abi_states.proofs.c_dsp.dsp_in.Reads as dsp-in-reads
 use Rattle.abi_states.proofs.c_dsp.dsp_out.Reads as dsp-out-reads
 use Rattle.abi_states.proofs.c_dsp.nack_out.Reads as nack-out-reads
 use Rattle.dsp.proofs.DspSequencer.take_refused.Reads as take-refused-reads
-use Rattle.protocol.proofs.status.OptionNack.none.Reads as none-reads
+use Rattle.protocol.proofs.OptionNack.none.Reads as none-reads
 
 dsp-in-requires : tie.Need-dsp-in-requires
 dsp-in-requires c κs = search needs

@@ -9,10 +9,10 @@ use denote.Ref.{now}
 use lib.ListN.{length}
 use lib.Seq.{take-all, take-length}
 use Rattle.protocol.specs.Stored.{stored}
-use Rattle.protocol.specs.declared.stored.Stored.{Stored}
+use Rattle.protocol.specs.declared.Stored.{Stored}
 use Rattle.protocol.proofs.Filled as law
-use Rattle.protocol.proofs.stored.Stored.from_slice.Statement.{statement}
-use Rattle.protocol.proofs.stored.Stored.from_slice.Tie as tie
+use Rattle.protocol.proofs.Stored.from_slice.Statement.{statement}
+use Rattle.protocol.proofs.Stored.from_slice.Tie as tie
 
 -- the first i bytes of s, then zeros
 abbrev filled : List ℕ → ℕ → List ℕ

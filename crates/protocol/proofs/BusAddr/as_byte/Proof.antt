@@ -1,8 +1,8 @@
 -- `BusAddr::as_byte` meets its contract. It would be proved with no file; with one, a wrong byte is the first error that a check shows.
 -- Assumes nothing.
 use borrow.Author.Needs.{needs}
-use Rattle.protocol.proofs.addr.BusAddr.as_byte.Statement.{statement}
-use Rattle.protocol.proofs.addr.BusAddr.as_byte.Tie as tie
+use Rattle.protocol.proofs.BusAddr.as_byte.Statement.{statement}
+use Rattle.protocol.proofs.BusAddr.as_byte.Tie as tie
 
 enum-told : tie.Need-enum-told
 enum-told c = search needs

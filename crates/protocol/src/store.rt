@@ -1,14 +1,8 @@
-// The bytes that a reply stores, for the Rust's `String` and `Vec<u8>`.
+// Storing bytes.
 ghost use mathlib.Core.Path.{_≡_};
 ghost use mathlib.Core.List.{[]};
 ghost use Rattle.protocol.specs.Stored.{stored};
-
-// The first `len` of `bytes`; the bytes after them are 0.
-#[repr(C)]
-pub struct Stored {
-    pub bytes: [u8; 256],
-    pub len: usize,
-}
+use crate::Stored;
 
 impl Stored {
     pub fn empty() -> Stored

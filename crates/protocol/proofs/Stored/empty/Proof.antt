@@ -2,8 +2,8 @@
 -- Assumes nothing.
 use borrow.Author.Needs.{needs}
 use Rattle.protocol.specs.Stored.{stored}
-use Rattle.protocol.proofs.stored.Stored.empty.Statement.{statement}
-use Rattle.protocol.proofs.stored.Stored.empty.Tie as tie
+use Rattle.protocol.proofs.Stored.empty.Statement.{statement}
+use Rattle.protocol.proofs.Stored.empty.Tie as tie
 
 returns : tie.Need-returns
 unfolding stored

@@ -2,8 +2,8 @@
 -- Assumes nothing.
 use borrow.Author.Needs.{needs}
 use lib.Bits.{and-mask}
-use Rattle.protocol.proofs.status.ConfigAck.for_result.Statement.{statement}
-use Rattle.protocol.proofs.status.ConfigAck.for_result.Tie as tie
+use Rattle.protocol.proofs.ConfigAck.for_result.Statement.{statement}
+use Rattle.protocol.proofs.ConfigAck.for_result.Tie as tie
 
 as-byte-requires : tie.Need-as-byte-requires
 as-byte-requires c κs = search needs

@@ -1,21 +1,7 @@
-// What becomes of a call: it is accepted, or refused with one of 01's numbers.
+// The number of a refusal.
 ghost use mathlib.Core.Path.{_≡_};
 ghost use Rattle.protocol.specs.Refusals.{number};
-
-pub enum Refusal {
-    TextTooLong,
-    PayloadTooLong,
-    ReadingTooLarge,
-    TooManyParams,
-    ReadingBelowLast,
-    NotDone,
-    RetriesFull,
-}
-
-pub enum Outcome {
-    Accepted,
-    Refused(Refusal),
-}
+use crate::Refusal;
 
 impl Refusal {
     pub fn number(self) -> u8
