@@ -2,13 +2,14 @@
 -- Assumes nothing.
 use mathlib.Core.Path.{_≡_, refl, sym, ap, _∙_}
 use mathlib.Core.Bool.{Bool, true, false, cond, _&&_}
-use mathlib.Core.List.{[], _∷_}
-use Prim.Native.Nat.{ℕ, _≤_, _<_}
-use native.Mathlib.Omega.{arith}
+use mathlib.Core.List.{List, [], _∷_}
+use Prim.Native.Nat.{ℕ}
 use lib.Dec.{leb, eqb}
-use borrow.Author.Tests.{lt-leb}
+use lib.IntN.{ℤ}
 use types.Run.{OneOf, miss}
 use denote.Enum.Declared as Declared
+use Rattle.protocol.specs.declared.BusAddr.{BusAddr}
+use Rattle.protocol.specs.declared.Message.{Message}
 use Rattle.protocol.specs.Action.{noAction}
 use Rattle.protocol.specs.Addr.{byteOf}
 use Rattle.device.specs.declared.model.DeviceModel.{DeviceModel}
@@ -24,6 +25,10 @@ use Rattle.avr_steps.specs.Stores.{Dated, statusPoll}
 use Rattle.avr_steps.specs.Table.{AvrRow, row, next}
 use Rattle.avr_steps.specs.Answers.{order, polling, reached, isNack, sends, willRepoll, withRepoll, waits, withDeadline, view, made, advance, answered, armAt}
 use Rattle.avr_steps.proofs.AvrStep as step
+
+-- what a feed from the Avr is handed
+abbrev pub dated : ℕ → Message → List ℤ → List ℕ → List ℕ → ℕ → Dated
+dated id m ps text payload wall = record { envelope = record { src = BusAddr.Avr; type-id = id; message = m; params = ps; text = text; payload = payload }; wall = wall }
 
 -- an event that does not pass the row changes nothing; one that passes ticks it
 pub idles : (r : AvrRow) (k : AvrStep) (r′ : AvrRow) (s : AvrState) (e : Event Dated) → passes r (s .«cal_deadline») e ≡ false
@@ -48,6 +53,7 @@ and-false : (b : Bool) → b && false ≡ false
 and-false true = refl
 and-false false = refl
 
+-- where a status is awaited
 pub at-poll : (s : AvrState) (d : Dated) (t : ℕ) (k : AvrStep) → s .step ≡ k → leb (order k) 2 ≡ true
     → cond (isNack (fed d t)) (willRepoll s (fed d t)) (armAt (row (s .model) k) (next (s .model) k) (row (s .model) (next (s .model) k)) s (fed d t))
     ≡ answered s (fed d t)
@@ -55,8 +61,12 @@ at-poll s d t k h p =
     let on : isNack (fed d t) && polling s ≡ isNack (fed d t) = rw (ap (λ (j : AvrStep). leb (order j) 2) h ∙ p) (and-true (isNack (fed d t))) in
     rw on (ap (cond (isNack (fed d t)) (willRepoll s (fed d t))) (at-step s d t k h))
 
-pub no-poll : (s : AvrState) (d : Dated) (t : ℕ) → 2 < order (s .step) → advance s (fed d t) ≡ answered s (fed d t)
-no-poll s d t h = rw (lt-leb (order (s .step)) 2 h, and-false (isNack (fed d t)))
+-- and where none is
+pub at-later : (s : AvrState) (d : Dated) (t : ℕ) (k : AvrStep) → s .step ≡ k → leb (order k) 2 ≡ false
+    → armAt (row (s .model) k) (next (s .model) k) (row (s .model) (next (s .model) k)) s (fed d t) ≡ answered s (fed d t)
+at-later s d t k h p =
+    let off : isNack (fed d t) && polling s ≡ false = rw (ap (λ (j : AvrStep). leb (order j) 2) h ∙ p) (and-false (isNack (fed d t))) in
+    at-step s d t k h ∙ ap (λ (b : Bool). cond b (willRepoll s (fed d t)) (advance s (fed d t))) (sym off)
 
 -- ---- a check: the repoll first, then the calibration's deadline
 
@@ -87,52 +97,7 @@ at-check s t k h p =
     let on : waits (row (s .model) (s .step) .wait) ≡ true = ap (λ (j : AvrStep). waits (row (s .model) j .wait)) h ∙ p in
     rw on (ap (λ (j : AvrStep). armAt (row (s .model) j) (next (s .model) j) (row (s .model) (next (s .model) j)) s (checked t)) (sym h))
 
--- ---- which steps a `_` arm leaves
-
-pub past-status : (k : AvrStep) → OneOf (2 ∷ 3 ∷ 4 ∷ 5 ∷ 6 ∷ 7 ∷ 8 ∷ 9 ∷ 10 ∷ 11 ∷ 12 ∷ []) (Declared.tagOf step.the-type k) → 2 < order k
-past-status WaitStatus1 h = absurd (miss (2 ∷ 3 ∷ 4 ∷ 5 ∷ 6 ∷ 7 ∷ 8 ∷ 9 ∷ 10 ∷ 11 ∷ 12 ∷ []) 0 tt h)
-past-status WaitStatus2 h = absurd (miss (2 ∷ 3 ∷ 4 ∷ 5 ∷ 6 ∷ 7 ∷ 8 ∷ 9 ∷ 10 ∷ 11 ∷ 12 ∷ []) 1 tt h)
-past-status WaitDevInfo1 h = omega arith
-past-status WaitDevInfo2 h = omega arith
-past-status WaitParam0C h = omega arith
-past-status WaitParam0D h = omega arith
-past-status WaitConfig h = omega arith
-past-status WaitFactoryCal h = omega arith
-past-status WaitIfCal h = omega arith
-past-status WaitAvrConfig h = omega arith
-past-status WaitParam64 h = omega arith
-past-status WaitTimeSync h = omega arith
-past-status Done h = omega arith
-
-pub past-params : (k : AvrStep) → OneOf (0 ∷ 1 ∷ 6 ∷ 7 ∷ 8 ∷ 9 ∷ 10 ∷ 11 ∷ 12 ∷ []) (Declared.tagOf step.the-type k) → 2 < order k → 6 < order k
-past-params WaitStatus1 h p = absurd (omega arith)
-past-params WaitStatus2 h p = absurd (omega arith)
-past-params WaitDevInfo1 h p = absurd (miss (0 ∷ 1 ∷ 6 ∷ 7 ∷ 8 ∷ 9 ∷ 10 ∷ 11 ∷ 12 ∷ []) 2 tt h)
-past-params WaitDevInfo2 h p = absurd (miss (0 ∷ 1 ∷ 6 ∷ 7 ∷ 8 ∷ 9 ∷ 10 ∷ 11 ∷ 12 ∷ []) 3 tt h)
-past-params WaitParam0C h p = absurd (miss (0 ∷ 1 ∷ 6 ∷ 7 ∷ 8 ∷ 9 ∷ 10 ∷ 11 ∷ 12 ∷ []) 4 tt h)
-past-params WaitParam0D h p = absurd (miss (0 ∷ 1 ∷ 6 ∷ 7 ∷ 8 ∷ 9 ∷ 10 ∷ 11 ∷ 12 ∷ []) 5 tt h)
-past-params WaitConfig h p = omega arith
-past-params WaitFactoryCal h p = omega arith
-past-params WaitIfCal h p = omega arith
-past-params WaitAvrConfig h p = omega arith
-past-params WaitParam64 h p = omega arith
-past-params WaitTimeSync h p = omega arith
-past-params Done h p = omega arith
-
-pub last : (k : AvrStep) → OneOf (0 ∷ 1 ∷ 2 ∷ 3 ∷ 4 ∷ 5 ∷ 12 ∷ []) (Declared.tagOf step.the-type k) → 6 < order k → k ≡ Done
-last WaitStatus1 h p = absurd (omega arith)
-last WaitStatus2 h p = absurd (omega arith)
-last WaitDevInfo1 h p = absurd (omega arith)
-last WaitDevInfo2 h p = absurd (omega arith)
-last WaitParam0C h p = absurd (omega arith)
-last WaitParam0D h p = absurd (omega arith)
-last WaitConfig h p = absurd (miss (0 ∷ 1 ∷ 2 ∷ 3 ∷ 4 ∷ 5 ∷ 12 ∷ []) 6 tt h)
-last WaitFactoryCal h p = absurd (miss (0 ∷ 1 ∷ 2 ∷ 3 ∷ 4 ∷ 5 ∷ 12 ∷ []) 7 tt h)
-last WaitIfCal h p = absurd (miss (0 ∷ 1 ∷ 2 ∷ 3 ∷ 4 ∷ 5 ∷ 12 ∷ []) 8 tt h)
-last WaitAvrConfig h p = absurd (miss (0 ∷ 1 ∷ 2 ∷ 3 ∷ 4 ∷ 5 ∷ 12 ∷ []) 9 tt h)
-last WaitParam64 h p = absurd (miss (0 ∷ 1 ∷ 2 ∷ 3 ∷ 4 ∷ 5 ∷ 12 ∷ []) 10 tt h)
-last WaitTimeSync h p = absurd (miss (0 ∷ 1 ∷ 2 ∷ 3 ∷ 4 ∷ 5 ∷ 12 ∷ []) 11 tt h)
-last Done h p = refl
+-- ---- which steps wait
 
 pub no-wait : (m : DeviceModel) (k : AvrStep) → OneOf (0 ∷ 1 ∷ 2 ∷ 3 ∷ 4 ∷ 5 ∷ 6 ∷ 9 ∷ 10 ∷ 11 ∷ 12 ∷ []) (Declared.tagOf step.the-type k) → row m k .wait ≡ forever
 no-wait m WaitStatus1 h = refl

@@ -82,5 +82,21 @@ next m WaitParam64 = WaitTimeSync
 next m WaitTimeSync = Done
 next m Done = Done
 
+-- what is asked when a step begins: what the entry before it sends. w are the wall seconds.
+abbrev pub request : AvrStep → ℕ → Action
+request WaitStatus1 w = statusPoll
+request WaitStatus2 w = statusPoll
+request WaitDevInfo1 w = sendTo BusAddr.Avr Command.DevInfoReq
+request WaitDevInfo2 w = sendTo BusAddr.Avr Command.DevInfoReq
+request WaitParam0C w = paramReadReq 0x0C
+request WaitParam0D w = paramReadReq 0x0D
+request WaitConfig w = sendTo BusAddr.Avr Command.ConfigQuery
+request WaitFactoryCal w = calDataReq
+request WaitIfCal w = sendTo BusAddr.Avr Command.CalParamReq
+request WaitAvrConfig w = sendTo BusAddr.Avr Command.AvrConfigQuery
+request WaitParam64 w = paramReadReq 0x64
+request WaitTimeSync w = timeSync w
+request Done w = noAction
+
 abbrev pub table : DeviceModel → Table (Event Dated)
 table m = map (λ k. test (row m k)) (stepsFor m)

@@ -3,7 +3,6 @@
 ghost use mathlib.Core.Path.{_≡_};
 ghost use mathlib.Core.Bool.{cond};
 ghost use mathlib.Core.List.{[]};
-ghost use Prim.Native.Nat.{_<_};
 ghost use denote.Ref.{now as held};
 ghost use Rattle.protocol.specs.Action.{noAction, sendTo};
 ghost use Rattle.protocol.specs.declared.BusAddr.{BusAddr};
@@ -12,8 +11,8 @@ ghost use Rattle.device.specs.Model.{hasFactoryCal};
 ghost use Rattle.sequence.specs.Events.{checked};
 ghost use Rattle.sequence.specs.Rows.{past, noDeadline, deadlineAt};
 ghost use Rattle.avr_steps.specs.declared.AvrStep.{AvrStep};
-ghost use Rattle.avr_steps.specs.Table.{statusRow, devInfoRow, paramRow, next, row};
-ghost use Rattle.avr_steps.specs.Answers.{order, sends, withRepoll, withDeadline, later, advance, answered, sent, armAt, pollAt};
+ghost use Rattle.avr_steps.specs.Table.{statusRow, devInfoRow, paramRow, next, request, row};
+ghost use Rattle.avr_steps.specs.Answers.{sends, withRepoll, withDeadline, later, advance, answered, sent, armAt, pollAt};
 use device::model::DeviceModel;
 use protocol::Action;
 use protocol::AvrConfigResp;
@@ -113,6 +112,33 @@ pub struct AvrMoved {
     pub state: AvrState,
 }
 
+fn ask(command: Command) -> Action
+    ensures { λ r. ⌜ r ≡ sendTo BusAddr.Avr command ⌝ }
+{
+    Action::send(command, BusAddr::Avr)
+}
+
+// What is asked when a step begins; the wall seconds are for the time alone.
+fn request(step: AvrStep, wall: u64) -> Action
+    ensures { λ r. ⌜ r ≡ request step wall ⌝ }
+{
+    match step {
+        AvrStep::WaitStatus1 => status_poll(false, BusAddr::Avr),
+        AvrStep::WaitStatus2 => status_poll(false, BusAddr::Avr),
+        AvrStep::WaitDevInfo1 => ask(Command::DevInfoReq),
+        AvrStep::WaitDevInfo2 => ask(Command::DevInfoReq),
+        AvrStep::WaitParam0C => param_read_req(0x0C, BusAddr::Avr),
+        AvrStep::WaitParam0D => param_read_req(0x0D, BusAddr::Avr),
+        AvrStep::WaitConfig => ask(Command::ConfigQuery),
+        AvrStep::WaitFactoryCal => cal_data_req(),
+        AvrStep::WaitIfCal => ask(Command::CalParamReq),
+        AvrStep::WaitAvrConfig => ask(Command::AvrConfigQuery),
+        AvrStep::WaitParam64 => param_read_req(0x64, BusAddr::Avr),
+        AvrStep::WaitTimeSync => time_sync(wall),
+        AvrStep::Done => Action::none(),
+    }
+}
+
 impl AvrState {
     // Nothing is sent, and nothing changes.
     fn idle(self) -> AvrMoved
@@ -125,14 +151,15 @@ impl AvrState {
         }
     }
 
-    fn moved(self, step: AvrStep, replies: AvrReplies, action: Action) -> AvrMoved
-        ensures { λ r. ⌜ r ≡ record { action = action; state = record { step = step; model = self .model; replies = replies; «cal_deadline» = self .«cal_deadline»; «repoll_at» = self .«repoll_at» } } ⌝ }
+    // The step begins, with its request.
+    fn moved(self, step: AvrStep, replies: AvrReplies, wall: u64) -> AvrMoved
+        ensures { λ r. ⌜ r ≡ record { action = request step wall; state = record { step = step; model = self .model; replies = replies; «cal_deadline» = self .«cal_deadline»; «repoll_at» = self .«repoll_at» } } ⌝ }
     {
         let model = self.model;
         let cal_deadline = self.cal_deadline;
         let repoll_at = self.repoll_at;
         AvrMoved {
-            action: action,
+            action: request(step, wall),
             state: AvrState {
                 step: step,
                 model: model,
@@ -173,8 +200,8 @@ impl AvrState {
         self.with_repoll(at).idle()
     }
 
-    fn wait_status(self, step: AvrStep, action: Action, message: Message, now: u64) -> AvrMoved
-        ensures { λ r. ⌜ r ≡ pollAt (statusRow action) step self (sent 0 message [] [] [] now 0) ⌝ }
+    fn wait_status(self, step: AvrStep, message: Message, now: u64) -> AvrMoved
+        ensures { λ r. ⌜ r ≡ pollAt (statusRow (request step 0)) step self (sent 0 message [] [] [] now 0) ⌝ }
     {
         match message {
             Message::ConfigNack(nack) => {
@@ -191,22 +218,14 @@ impl AvrState {
                 };
                 replies.status = status;
                 let cleared = OptionInstant::none();
-                return self.with_repoll(cleared).moved(step, replies, action);
+                return self.with_repoll(cleared).moved(step, replies, 0);
             }
             _ => return self.idle(),
         }
     }
 
-    fn wait_dev_info(
-        self,
-        step: AvrStep,
-        action: Action,
-        message: Message,
-        text: &[u8],
-        payload: &[u8],
-        now: u64,
-    ) -> AvrMoved
-        ensures { λ r. ⌜ r ≡ armAt (devInfoRow action) step past self (sent 0 message [] (held (text .entry)) (held (payload .entry)) now 0) ⌝ }
+    fn wait_dev_info(self, step: AvrStep, message: Message, text: &[u8], payload: &[u8]) -> AvrMoved
+        ensures { λ r. ⌜ r ≡ armAt (devInfoRow (request step 0)) step past self (sent 0 message [] (held (text .entry)) (held (payload .entry)) 0 0) ⌝ }
     {
         if let Message::DevInfoResp = message {
             let mut replies = self.replies;
@@ -218,16 +237,16 @@ impl AvrState {
                 },
             };
             replies.dev_info = dev_info;
-            return self.moved(step, replies, action);
+            return self.moved(step, replies, 0);
         }
         self.idle()
     }
 
-    fn wait_param(self, step: AvrStep, action: Action, message: Message, now: u64) -> AvrMoved
-        ensures { λ r. ⌜ r ≡ armAt (paramRow (λ e. action)) step past self (sent 0 message [] [] [] now 0) ⌝ }
+    fn wait_param(self, step: AvrStep, message: Message, wall: u64) -> AvrMoved
+        ensures { λ r. ⌜ r ≡ armAt (paramRow (λ e. request step wall)) step past self (sent 0 message [] [] [] 0 0) ⌝ }
     {
         if let Message::ParamValue(_) = message {
-            return self.moved(step, self.replies, action);
+            return self.moved(step, self.replies, wall);
         }
         self.idle()
     }
@@ -245,7 +264,7 @@ impl AvrState {
             let model = self.model;
             if model.has_factory_cal() {
                 let state = self.with_deadline(OptionInstant::after(now, TIMEOUT));
-                return state.moved(AvrStep::WaitFactoryCal, replies, cal_data_req());
+                return state.moved(AvrStep::WaitFactoryCal, replies, 0);
             }
             return self.to_if_cal(replies, now);
         }
@@ -254,12 +273,11 @@ impl AvrState {
 
     // On to the other calibration, with or without the factory's.
     fn to_if_cal(self, replies: AvrReplies, now: u64) -> AvrMoved
-        ensures { λ r. ⌜ r ≡ record { action = sendTo BusAddr.Avr Command.CalParamReq; state = record { step = AvrStep.WaitIfCal; model = self .model; replies = replies; «cal_deadline» = deadlineAt now 2_000_000_000; «repoll_at» = self .«repoll_at» } } ⌝ }
+        ensures { λ r. ⌜ r ≡ record { action = request AvrStep.WaitIfCal 0; state = record { step = AvrStep.WaitIfCal; model = self .model; replies = replies; «cal_deadline» = deadlineAt now 2_000_000_000; «repoll_at» = self .«repoll_at» } } ⌝ }
     {
         let until = OptionInstant::after(now, TIMEOUT);
-        let action = Action::send(Command::CalParamReq, BusAddr::Avr);
         self.with_deadline(until)
-            .moved(AvrStep::WaitIfCal, replies, action)
+            .moved(AvrStep::WaitIfCal, replies, 0)
     }
 
     fn wait_factory_cal(self, message: Message, payload: &[u8], now: u64) -> AvrMoved
@@ -286,10 +304,9 @@ impl AvrState {
         let state = self.with_deadline(OptionInstant::none());
         let model = self.model;
         if model.has_factory_cal() {
-            let action = Action::send(Command::AvrConfigQuery, BusAddr::Avr);
-            return state.moved(AvrStep::WaitAvrConfig, replies, action);
+            return state.moved(AvrStep::WaitAvrConfig, replies, 0);
         }
-        state.moved(AvrStep::Done, replies, Action::none())
+        state.moved(AvrStep::Done, replies, 0)
     }
 
     fn wait_if_cal(self, message: Message, payload: &[u8], now: u64) -> AvrMoved
@@ -309,8 +326,8 @@ impl AvrState {
         self.idle()
     }
 
-    fn wait_avr_config(self, message: Message, payload: &[u8], now: u64) -> AvrMoved
-        ensures { λ r. ⌜ r ≡ armAt (row (self .model) AvrStep.WaitAvrConfig) AvrStep.WaitParam64 (row (self .model) AvrStep.WaitParam64) self (sent 0 message [] [] (held (payload .entry)) now 0) ⌝ }
+    fn wait_avr_config(self, message: Message, payload: &[u8]) -> AvrMoved
+        ensures { λ r. ⌜ r ≡ armAt (row (self .model) AvrStep.WaitAvrConfig) AvrStep.WaitParam64 past self (sent 0 message [] [] (held (payload .entry)) 0 0) ⌝ }
     {
         if let Message::AvrConfigResp = message {
             let mut replies = self.replies;
@@ -321,93 +338,21 @@ impl AvrState {
                 },
             };
             replies.avr_config = avr_config;
-            return self.moved(
-                AvrStep::WaitParam64,
-                replies,
-                param_read_req(0x64, BusAddr::Avr),
-            );
+            return self.moved(AvrStep::WaitParam64, replies, 0);
         }
         self.idle()
     }
 
-    fn wait_time_sync(self, message: Message, now: u64) -> AvrMoved
-        ensures { λ r. ⌜ r ≡ armAt (row (self .model) AvrStep.WaitTimeSync) AvrStep.Done past self (sent 0 message [] [] [] now 0) ⌝ }
+    fn wait_time_sync(self, message: Message) -> AvrMoved
+        ensures { λ r. ⌜ r ≡ armAt (row (self .model) AvrStep.WaitTimeSync) AvrStep.Done past self (sent 0 message [] [] [] 0 0) ⌝ }
     {
         if let Message::TimeSync(_) = message {
-            return self.moved(AvrStep::Done, self.replies, Action::none());
+            return self.moved(AvrStep::Done, self.replies, 0);
         }
         self.idle()
     }
 
     // ---- an accepted envelope from the AVR, an accepted check
-
-    // From the configuration on.
-    fn feed_late(
-        self,
-        type_id: u8,
-        message: Message,
-        params: [i16; 34],
-        text: &[u8],
-        payload: &[u8],
-        now: u64,
-        wall: u64,
-    ) -> AvrMoved
-        requires { ⌜ 6 < order (self .step) ⌝ }
-        ensures { λ r. ⌜ r ≡ advance self (sent «type_id» message params (held (text .entry)) (held (payload .entry)) now wall) ⌝ }
-    {
-        let step = self.step;
-        match step {
-            AvrStep::WaitConfig => self.wait_config(message, params, now),
-            AvrStep::WaitFactoryCal => self.wait_factory_cal(message, payload, now),
-            AvrStep::WaitIfCal => self.wait_if_cal(message, payload, now),
-            AvrStep::WaitAvrConfig => self.wait_avr_config(message, payload, now),
-            AvrStep::WaitParam64 => {
-                self.wait_param(AvrStep::WaitTimeSync, time_sync(wall), message, now)
-            }
-            AvrStep::WaitTimeSync => self.wait_time_sync(message, now),
-            _ => self.idle(),
-        }
-    }
-
-    // From the device info on.
-    fn feed_on(
-        self,
-        type_id: u8,
-        message: Message,
-        params: [i16; 34],
-        text: &[u8],
-        payload: &[u8],
-        now: u64,
-        wall: u64,
-    ) -> AvrMoved
-        requires { ⌜ 2 < order (self .step) ⌝ }
-        ensures { λ r. ⌜ r ≡ advance self (sent «type_id» message params (held (text .entry)) (held (payload .entry)) now wall) ⌝ }
-    {
-        let step = self.step;
-        match step {
-            AvrStep::WaitDevInfo1 => {
-                let action = Action::send(Command::DevInfoReq, BusAddr::Avr);
-                self.wait_dev_info(AvrStep::WaitDevInfo2, action, message, text, payload, now)
-            }
-            AvrStep::WaitDevInfo2 => {
-                let action = param_read_req(0x0C, BusAddr::Avr);
-                self.wait_dev_info(AvrStep::WaitParam0C, action, message, text, payload, now)
-            }
-            AvrStep::WaitParam0C => {
-                self.wait_param(
-                    AvrStep::WaitParam0D,
-                    param_read_req(0x0D, BusAddr::Avr),
-                    message,
-                    now,
-                )
-            }
-            AvrStep::WaitParam0D => {
-                let action = Action::send(Command::ConfigQuery, BusAddr::Avr);
-                self.wait_param(AvrStep::WaitConfig, action, message, now)
-            }
-            _ => self.feed_late(type_id, message, params, text, payload, now, wall),
-        }
-    }
 
     pub fn feed(
         self,
@@ -423,15 +368,23 @@ impl AvrState {
     {
         let step = self.step;
         match step {
-            AvrStep::WaitStatus1 => {
-                let action = status_poll(false, BusAddr::Avr);
-                self.wait_status(AvrStep::WaitStatus2, action, message, now)
+            AvrStep::WaitStatus1 => self.wait_status(AvrStep::WaitStatus2, message, now),
+            AvrStep::WaitStatus2 => self.wait_status(AvrStep::WaitDevInfo1, message, now),
+            AvrStep::WaitDevInfo1 => {
+                self.wait_dev_info(AvrStep::WaitDevInfo2, message, text, payload)
             }
-            AvrStep::WaitStatus2 => {
-                let action = Action::send(Command::DevInfoReq, BusAddr::Avr);
-                self.wait_status(AvrStep::WaitDevInfo1, action, message, now)
+            AvrStep::WaitDevInfo2 => {
+                self.wait_dev_info(AvrStep::WaitParam0C, message, text, payload)
             }
-            _ => self.feed_on(type_id, message, params, text, payload, now, wall),
+            AvrStep::WaitParam0C => self.wait_param(AvrStep::WaitParam0D, message, 0),
+            AvrStep::WaitParam0D => self.wait_param(AvrStep::WaitConfig, message, 0),
+            AvrStep::WaitConfig => self.wait_config(message, params, now),
+            AvrStep::WaitFactoryCal => self.wait_factory_cal(message, payload, now),
+            AvrStep::WaitIfCal => self.wait_if_cal(message, payload, now),
+            AvrStep::WaitAvrConfig => self.wait_avr_config(message, payload),
+            AvrStep::WaitParam64 => self.wait_param(AvrStep::WaitTimeSync, message, wall),
+            AvrStep::WaitTimeSync => self.wait_time_sync(message),
+            AvrStep::Done => self.idle(),
         }
     }
 

@@ -16,25 +16,19 @@ with-deadline-requires c κs = search needs
 has-factory-cal-requires : tie.Need-has-factory-cal-requires
 has-factory-cal-requires c κs = search needs
 
-send-requires : tie.Need-send-requires
-send-requires c κs = search needs
-
 moved-requires : tie.Need-moved-requires
 moved-requires c κs = search needs
 
 returns : tie.Need-returns
-returns c = let on : hasFactoryCal (c .before .before .before .before .before .before .args .self .model) ≡ true = sym (c .before .before .before .has-factory-cal .ensures) ∙ c .before .before .if1 .taken in
-    c .moved .ensures ∙ rw (on, c .before .send .ensures, c .before .before .before .before .with-deadline .ensures, c .before .before .before .before .before .none .ensures)
-
-none-requires-2 : tie.Need-none-requires-2
-none-requires-2 c κs = search needs
+returns c = let on : hasFactoryCal (c .before .before .before .before .before .args .self .model) ≡ true = sym (c .before .before .has-factory-cal .ensures) ∙ c .before .if1 .taken in
+    c .moved .ensures ∙ rw (on, c .before .before .before .with-deadline .ensures, c .before .before .before .before .none .ensures)
 
 moved-requires-2 : tie.Need-moved-requires-2
 moved-requires-2 c κs = search needs
 
 returns-2 : tie.Need-returns-2
-returns-2 c = let off : hasFactoryCal (c .before .before .before .before .before .before .args .self .model) ≡ false = sym (c .before .before .before .has-factory-cal .ensures) ∙ c .before .before .if1 .left in
-    c .moved2 .ensures ∙ rw (off, c .before .none2 .ensures, c .before .before .before .before .with-deadline .ensures, c .before .before .before .before .before .none .ensures)
+returns-2 c = let off : hasFactoryCal (c .before .before .before .before .before .args .self .model) ≡ false = sym (c .before .before .has-factory-cal .ensures) ∙ c .before .if1 .left in
+    c .moved2 .ensures ∙ rw (off, c .before .before .before .with-deadline .ensures, c .before .before .before .before .none .ensures)
 
 pub after-if-cal-spec : {M : Type 1} → statement M
 after-if-cal-spec =
@@ -43,9 +37,7 @@ after-if-cal-spec =
     none-requires
     with-deadline-requires
     has-factory-cal-requires
-    send-requires
     moved-requires
     returns
-    none-requires-2
     moved-requires-2
     returns-2)

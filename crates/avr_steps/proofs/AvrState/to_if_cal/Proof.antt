@@ -8,9 +8,6 @@ use Rattle.avr_steps.proofs.AvrState.to_if_cal.Tie as tie
 after-requires : tie.Need-after-requires
 after-requires c κs = search needs
 
-send-requires : tie.Need-send-requires
-send-requires c κs = search needs
-
 with-deadline-requires : tie.Need-with-deadline-requires
 with-deadline-requires c κs = search needs
 
@@ -18,8 +15,8 @@ moved-requires : tie.Need-moved-requires
 moved-requires c κs = search needs
 
 returns : tie.Need-returns
-returns c = c .moved .ensures ∙ rw (c .before .with-deadline .ensures, c .before .before .send .ensures, c .before .before .before .after .ensures)
+returns c = c .moved .ensures ∙ rw (c .before .with-deadline .ensures, c .before .before .after .ensures)
 
 pub to-if-cal-spec : {M : Type 1} → statement M
 to-if-cal-spec =
-    tie.close (tie.spec after-requires send-requires with-deadline-requires moved-requires returns)
+    tie.close (tie.spec after-requires with-deadline-requires moved-requires returns)

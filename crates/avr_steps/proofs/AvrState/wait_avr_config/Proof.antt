@@ -4,6 +4,7 @@ use mathlib.Core.Path.{_∙_}
 use mathlib.Core.List.{[]}
 use denote.Ref.{now}
 use Rattle.protocol.proofs.Arms.{other}
+use Rattle.sequence.specs.Rows.{past}
 use Rattle.avr_steps.specs.declared.AvrStep.{AvrStep}
 use Rattle.avr_steps.specs.Table.{row}
 use Rattle.avr_steps.specs.Answers.{sent}
@@ -18,21 +19,18 @@ enum-told c = search needs
 from-slice-requires : tie.Need-from-slice-requires
 from-slice-requires c κs = search needs
 
-param-read-req-requires : tie.Need-param-read-req-requires
-param-read-req-requires c κs = search needs
-
 moved-requires : tie.Need-moved-requires
 moved-requires c κs = search needs
 
 returns : tie.Need-returns
-returns c = c .moved .ensures ∙ rw (c .before .before .before .before .enum-told .given .1, c .before .param-read-req .ensures, c .before .before .from-slice .ensures)
+returns c = c .moved .ensures ∙ rw (c .before .before .before .enum-told .given .1, c .before .from-slice .ensures)
 
 idle-requires : tie.Need-idle-requires
 idle-requires c κs = search needs
 
 returns-2 : tie.Need-returns-2
 returns-2 c = let a = c .before .before .before .args in
-    c .idle .ensures ∙ idles (row (a .self .model) AvrStep.WaitAvrConfig) AvrStep.WaitParam64 (row (a .self .model) AvrStep.WaitParam64) (a .self) (sent 0 (a .message) [] [] (now (a .payload)) (a .now) 0) (other 11 (a .message) tt (c .before .match .keys2))
+    c .idle .ensures ∙ idles (row (a .self .model) AvrStep.WaitAvrConfig) AvrStep.WaitParam64 past (a .self) (sent 0 (a .message) [] [] (now (a .payload)) 0 0) (other 11 (a .message) tt (c .before .match .keys2))
 
 pub wait-avr-config-spec : {M : Type 1} → statement M
 wait-avr-config-spec =
@@ -40,7 +38,6 @@ wait-avr-config-spec =
     (tie.spec
     enum-told
     from-slice-requires
-    param-read-req-requires
     moved-requires
     returns
     idle-requires

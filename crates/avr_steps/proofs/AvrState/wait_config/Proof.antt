@@ -25,15 +25,12 @@ after-requires c κs = search needs
 with-deadline-requires : tie.Need-with-deadline-requires
 with-deadline-requires c κs = search needs
 
-cal-data-req-requires : tie.Need-cal-data-req-requires
-cal-data-req-requires c κs = search needs
-
 moved-requires : tie.Need-moved-requires
 moved-requires c κs = search needs
 
 returns : tie.Need-returns
-returns c = let on : hasFactoryCal (c .before .before .before .before .before .before .before .before .before .args .self .model) ≡ true = sym (c .before .before .before .before .before .has-factory-cal .ensures) ∙ c .before .before .before .before .if1 .taken in
-    c .moved .ensures ∙ rw (c .before .before .before .before .before .before .before .enum-told .given .1, on, c .before .cal-data-req .ensures, c .before .before .with-deadline .ensures, c .before .before .before .after .ensures)
+returns c = let on : hasFactoryCal (c .before .before .before .before .before .before .before .before .args .self .model) ≡ true = sym (c .before .before .before .before .has-factory-cal .ensures) ∙ c .before .before .before .if1 .taken in
+    c .moved .ensures ∙ rw (c .before .before .before .before .before .before .enum-told .given .1, on, c .before .with-deadline .ensures, c .before .before .after .ensures)
 
 to-if-cal-requires : tie.Need-to-if-cal-requires
 to-if-cal-requires c κs = search needs
@@ -58,7 +55,6 @@ wait-config-spec =
     has-factory-cal-requires
     after-requires
     with-deadline-requires
-    cal-data-req-requires
     moved-requires
     returns
     to-if-cal-requires

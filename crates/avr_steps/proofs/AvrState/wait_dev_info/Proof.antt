@@ -5,7 +5,7 @@ use mathlib.Core.List.{[]}
 use denote.Ref.{now}
 use Rattle.protocol.proofs.Arms.{other}
 use Rattle.sequence.specs.Rows.{past}
-use Rattle.avr_steps.specs.Table.{devInfoRow}
+use Rattle.avr_steps.specs.Table.{devInfoRow, request}
 use Rattle.avr_steps.specs.Answers.{sent}
 use Rattle.avr_steps.proofs.Rows.{idles}
 use borrow.Author.Needs.{needs}
@@ -32,7 +32,7 @@ idle-requires c κs = search needs
 
 returns-2 : tie.Need-returns-2
 returns-2 c = let a = c .before .before .before .before .args in
-    c .idle .ensures ∙ idles (devInfoRow (a .action)) (a .step) past (a .self) (sent 0 (a .message) [] (now (a .text)) (now (a .payload)) (a .now) 0) (other 13 (a .message) tt (c .before .match .keys2))
+    c .idle .ensures ∙ idles (devInfoRow (request (a .step) 0)) (a .step) past (a .self) (sent 0 (a .message) [] (now (a .text)) (now (a .payload)) 0 0) (other 13 (a .message) tt (c .before .match .keys2))
 
 pub wait-dev-info-spec : {M : Type 1} → statement M
 wait-dev-info-spec =

@@ -4,7 +4,7 @@ use mathlib.Core.Path.{_∙_}
 use mathlib.Core.List.{[]}
 use Rattle.protocol.proofs.Arms.{other}
 use Rattle.sequence.specs.Rows.{past}
-use Rattle.avr_steps.specs.Table.{paramRow}
+use Rattle.avr_steps.specs.Table.{paramRow, request}
 use Rattle.avr_steps.specs.Answers.{sent}
 use Rattle.avr_steps.proofs.Rows.{idles}
 use borrow.Author.Needs.{needs}
@@ -25,7 +25,7 @@ idle-requires c κs = search needs
 
 returns-2 : tie.Need-returns-2
 returns-2 c = let a = c .before .before .args in
-    c .idle .ensures ∙ idles (paramRow (λ e. a .action)) (a .step) past (a .self) (sent 0 (a .message) [] [] [] (a .now) 0) (other 8 (a .message) tt (c .before .match .keys2))
+    c .idle .ensures ∙ idles (paramRow (λ e. request (a .step) (a .wall))) (a .step) past (a .self) (sent 0 (a .message) [] [] [] 0 0) (other 8 (a .message) tt (c .before .match .keys2))
 
 pub wait-param-spec : {M : Type 1} → statement M
 wait-param-spec = tie.close (tie.spec enum-told moved-requires returns idle-requires returns-2)

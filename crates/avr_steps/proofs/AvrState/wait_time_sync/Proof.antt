@@ -15,22 +15,19 @@ use Rattle.avr_steps.proofs.AvrState.wait_time_sync.Tie as tie
 enum-told : tie.Need-enum-told
 enum-told c = search needs
 
-none-requires : tie.Need-none-requires
-none-requires c κs = search needs
-
 moved-requires : tie.Need-moved-requires
 moved-requires c κs = search needs
 
 returns : tie.Need-returns
-returns c = c .moved .ensures ∙ rw (c .before .before .enum-told .given .1, c .before .none .ensures)
+returns c = c .moved .ensures ∙ rw (c .before .enum-told .given .1)
 
 idle-requires : tie.Need-idle-requires
 idle-requires c κs = search needs
 
 returns-2 : tie.Need-returns-2
 returns-2 c = let a = c .before .before .args in
-    c .idle .ensures ∙ idles (row (a .self .model) AvrStep.WaitTimeSync) AvrStep.Done past (a .self) (sent 0 (a .message) [] [] [] (a .now) 0) (other 18 (a .message) tt (c .before .match .keys2))
+    c .idle .ensures ∙ idles (row (a .self .model) AvrStep.WaitTimeSync) AvrStep.Done past (a .self) (sent 0 (a .message) [] [] [] 0 0) (other 18 (a .message) tt (c .before .match .keys2))
 
 pub wait-time-sync-spec : {M : Type 1} → statement M
 wait-time-sync-spec =
-    tie.close (tie.spec enum-told none-requires moved-requires returns idle-requires returns-2)
+    tie.close (tie.spec enum-told moved-requires returns idle-requires returns-2)
