@@ -1,9 +1,9 @@
 -- What a Pi start-up stores: what is absent, what an event leaves in a field, which entry stores which field; and its sends.
 -- Definitions only.
 -- Assumes nothing.
-use Prim.Native.Nat.{ℕ, suc, _+_}
+use Prim.Native.Nat.{ℕ, _+_}
 use mathlib.Core.Bool.{Bool, true, false, cond}
-use mathlib.Core.List.{List, [], _∷_}
+use mathlib.Core.List.{[]}
 use lib.Dec.{eqb}
 use lib.ListN.{take, drop}
 use Rattle.protocol.specs.declared.BusAddr.{BusAddr}
@@ -13,6 +13,7 @@ use Rattle.protocol.specs.declared.Action.{Action}
 use Rattle.protocol.specs.Action.{sendTo}
 use Rattle.protocol.specs.Carried.{noCamConfig, carried}
 use Rattle.protocol.specs.Stored.{stored}
+use Rattle.net_config.specs.Zero.{firstZero}
 use Rattle.requests.specs.Requests as requests
 use Rattle.sequence.specs.Events.{Envelope, Event, fed, checked, kind}
 use Rattle.sequence.specs.Replies.{noDevInfo, devInfoIn}
@@ -36,11 +37,6 @@ fromPi k e = kind 0x12 k e
 abbrev pub camConfigIn : Event Envelope → OptionCamConfig
 camConfigIn (fed e t) = record { some = true; value = carried (e .message) .cam }
 camConfigIn (checked t) = noCam
-
--- the place of the first zero byte, the text's length if there is none
-abbrev pub firstZero : List ℕ → ℕ
-firstZero [] = 0
-firstZero (b ∷ s) = cond (eqb b 0) 0 (suc (firstZero s))
 
 -- the network text: before its first zero byte the ssid, all after it the password
 abbrev pub ssidIn : Event Envelope → Stored

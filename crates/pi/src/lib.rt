@@ -2,17 +2,16 @@
 // with at most one command to send. It has no clock.
 ghost use mathlib.Core.Path.{_≡_};
 ghost use mathlib.Core.List.{[]};
-ghost use Prim.Native.Nat.{_+_};
-ghost use lib.ListN.{take, drop};
-ghost use Rattle.protocol.specs.Stored.{stored};
 ghost use denote.Ref.{now as held};
 ghost use Rattle.protocol.specs.declared.BusAddr.{BusAddr};
 ghost use Rattle.protocol.specs.declared.Outcome.{Outcome};
 ghost use Rattle.sequence.specs.Rows.{idle, past};
 ghost use Rattle.pi.specs.declared.PiStep.{PiStep};
-ghost use Rattle.pi.specs.Stores.{noReplies, firstZero};
+ghost use Rattle.pi.specs.Stores.{noReplies};
 ghost use Rattle.pi.specs.Table.{entry1, entry2, entry4, entry5, entry6, entry7, paramEntry, paramRow, next};
 ghost use Rattle.pi.specs.Answers.{begun, view, made, refused, advance, armAt, sent, fedTo, syncOf, finished};
+use net_config::after_zero;
+use net_config::before_zero;
 use protocol::Action;
 use protocol::BusAddr;
 use protocol::CamConfig;
@@ -108,41 +107,6 @@ impl PiReplies {
             password: bytes,
         }
     }
-}
-
-// ---- the network text
-
-// The place of the first zero byte, the text's length if there is none.
-fn first_zero(text: &[u8]) -> usize
-    ensures { λ r. ⌜ r ≡ firstZero (held (text .entry)) ⌝ }
-{
-    let mut i = 0;
-    while i < text.len() {
-        if text[i] == 0 {
-            return i;
-        }
-        i += 1;
-    }
-    text.len()
-}
-
-// The part before the first zero byte.
-fn before_zero(text: &[u8]) -> Stored
-    ensures { λ r. ⌜ r ≡ stored (take (firstZero (held (text .entry))) (held (text .entry))) ⌝ }
-{
-    let at = first_zero(text);
-    Stored::from_slice(&text[..at])
-}
-
-// All after the first zero byte, nothing if there is none.
-fn after_zero(text: &[u8]) -> Stored
-    ensures { λ r. ⌜ r ≡ stored (drop (firstZero (held (text .entry)) + 1) (held (text .entry))) ⌝ }
-{
-    let at = first_zero(text);
-    if at < text.len() {
-        return Stored::from_slice(&text[at + 1..]);
-    }
-    Stored::empty()
 }
 
 // The result that these replies make.

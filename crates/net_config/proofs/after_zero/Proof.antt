@@ -8,11 +8,11 @@ use denote.Ref.{now}
 use lib.ListN.{length, take, drop, drop-of-length-le, length-drop}
 use lib.Seq.{take-all}
 use Rattle.protocol.specs.Stored.{stored}
-use Rattle.pi.specs.Stores.{firstZero}
-use Rattle.pi.proofs.Texts.{inside}
+use Rattle.net_config.specs.Zero.{firstZero}
+use Rattle.net_config.proofs.Texts.{inside}
 use borrow.Author.Needs.{needs}
-use Rattle.pi.proofs.after_zero.Statement.{statement}
-use Rattle.pi.proofs.after_zero.Tie as tie
+use Rattle.net_config.proofs.after_zero.Statement.{statement}
+use Rattle.net_config.proofs.after_zero.Tie as tie
 
 first-zero-requires : tie.Need-first-zero-requires
 first-zero-requires c κs = search needs

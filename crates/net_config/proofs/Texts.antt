@@ -6,7 +6,7 @@ use mathlib.Core.List.{List, [], _∷_}
 use Prim.Native.Nat.{ℕ, suc, _≤_, zero-le, suc-le-suc}
 use lib.Dec.{eqb}
 use lib.ListN.{length}
-use Rattle.pi.specs.Stores.{firstZero}
+use Rattle.net_config.specs.Zero.{firstZero}
 
 pub inside : (s : List ℕ) → firstZero s ≤ length s
 inside [] = zero-le

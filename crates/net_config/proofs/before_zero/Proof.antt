@@ -7,18 +7,18 @@ use denote.Ref.{now}
 use lib.Seq.{length-take-le}
 use lib.ListN.{length, take, drop, drop-of-length-le}
 use Rattle.protocol.specs.Stored.{stored}
-use Rattle.pi.specs.Stores.{firstZero}
-use Rattle.pi.proofs.Texts.{inside}
+use Rattle.net_config.specs.Zero.{firstZero}
+use Rattle.net_config.proofs.Texts.{inside}
 use borrow.Author.Needs.{needs}
-use Rattle.pi.proofs.before_zero.Statement.{statement}
-use Rattle.pi.proofs.before_zero.Tie as tie
+use Rattle.net_config.proofs.before_zero.Statement.{statement}
+use Rattle.net_config.proofs.before_zero.Tie as tie
 
 first-zero-requires : tie.Need-first-zero-requires
 first-zero-requires c κs = search needs
 
 slice-aggregate-from-slice : tie.Need-slice-aggregate-from-slice
 slice-aggregate-from-slice c = let s = now (c .before .before .before .args .text) in
-    sym (length-take-le (c .before .first-zero .result) s (omega (arith, inside s, c .before .first-zero .ensures)))
+    sym (length-take-le _ s (omega (arith, inside s, c .before .first-zero .ensures)))
 
 from-slice-requires : tie.Need-from-slice-requires
 from-slice-requires c κs = search needs

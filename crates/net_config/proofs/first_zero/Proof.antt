@@ -10,9 +10,9 @@ use lib.ListN.{length, getD, drop, drop-of-length-le}
 use denote.Ref.{now}
 use lib.Seq.{drop-cons}
 use borrow.Author.Tests.{eq-eqb, ne-eqb}
-use Rattle.pi.specs.Stores.{firstZero}
-use Rattle.pi.proofs.first_zero.Statement.{statement}
-use Rattle.pi.proofs.first_zero.Tie as tie
+use Rattle.net_config.specs.Zero.{firstZero}
+use Rattle.net_config.proofs.first_zero.Statement.{statement}
+use Rattle.net_config.proofs.first_zero.Tie as tie
 
 at-zero : (s : List ℕ) (i : ℕ) → i < length s → getD s i 0 ≡ 0 → firstZero (drop i s) ≡ 0
 at-zero s i h z = rw (drop-cons s i 0 h, eq-eqb _ _ z)
