@@ -3,8 +3,6 @@ mod arming;
 mod disarming;
 
 use arm::ArmSequencer;
-use device_calls::next::Turn;
-use device_calls::next::next;
 use disarm::DisarmSequencer;
 use reading::call::Call;
 use reading::call::Calls;
@@ -14,6 +12,8 @@ use scanning::bytes::BYTES;
 use streams::INPUT;
 use streams::LONGER;
 use streams::Stream;
+use streams::next::Turn;
+use streams::next::next;
 use words::kinds::Kinds;
 use words::kinds::VALUES;
 use words::part;

@@ -1,8 +1,6 @@
 // The calls of a DSP start-up, and what they answer.
 mod stored;
 
-use device_calls::next::Turn;
-use device_calls::next::next;
 use dsp::DspFed;
 use dsp::DspSequencer;
 use dsp_steps::DspStep;
@@ -14,6 +12,8 @@ use scanning::bytes::BYTES;
 use streams::INPUT;
 use streams::LONGER;
 use streams::Stream;
+use streams::next::Turn;
+use streams::next::next;
 use words::kinds::Kinds;
 use words::kinds::VALUES;
 use words::part;

@@ -1,7 +1,5 @@
 // Lists of calls: reads one and writes what each call answers, as docs/REPLAY.md says. The programs `replay` and `trials` are a few
 // lines over it.
-use device_calls::next::Turn;
-use device_calls::next::next;
 use reading::call::Call;
 use reading::call::NO_CALLS;
 use reading::call::Sequence;
@@ -10,6 +8,8 @@ use streams::Ended;
 use streams::INPUT;
 use streams::LONGER;
 use streams::Stream;
+use streams::next::Turn;
+use streams::next::next;
 use words::kinds::KINDS;
 use words::kinds::Kinds;
 use words::kinds::VALUES;
@@ -35,26 +35,8 @@ fn run(
         Sequence::AvrConfig(settings) => {
             avr_config_calls::run(settings, stream, kinds, input, line, values, bytes, out)
         }
-        Sequence::Disarm => arm_calls::run(
-            sequence,
-            stream,
-            kinds,
-            input,
-            line,
-            values,
-            bytes,
-            out,
-        ),
-        Sequence::Arm(_) => arm_calls::run(
-            sequence,
-            stream,
-            kinds,
-            input,
-            line,
-            values,
-            bytes,
-            out,
-        ),
+        // an arm or a disarm
+        _ => arm_calls::run(sequence, stream, kinds, input, line, values, bytes, out),
     }
 }
 

@@ -2,8 +2,6 @@
 mod camera;
 mod stored;
 
-use device_calls::next::Turn;
-use device_calls::next::next;
 use pi::PiFed;
 use pi::PiSequencer;
 use pi::PiStep;
@@ -15,6 +13,8 @@ use scanning::bytes::BYTES;
 use streams::INPUT;
 use streams::LONGER;
 use streams::Stream;
+use streams::next::Turn;
+use streams::next::next;
 use words::kinds::Kinds;
 use words::kinds::VALUES;
 use words::part;

@@ -1,4 +1,9 @@
-// A list as it is read, line by line, and its answers as they are written out. What the lines say is the business of others.
+// A list as it is read, line by line, and its answers as they are written out. Lines that need no sequence are answered here
+// (device_calls, bad); the calls of sequences are left to others (next).
+mod bad;
+mod device_calls;
+pub mod next;
+
 use libc::STDOUT_FILENO;
 use reading::call::Call;
 use reading::call::LINE;
@@ -12,8 +17,8 @@ use writing::write::OUT;
 // The bytes of one read.
 pub const INPUT: usize = 65_536;
 
-// The line buffer: one byte more than a line may have, so that a longer one shows.
-pub const LONGER: usize = LINE + 1;
+// The line buffer: one byte more than a line may have, so that a longer one shows, and the three of a byte order mark before it.
+pub const LONGER: usize = LINE + 1 + 3;
 
 // The output is written out once it is longer than this: no answer is longer than the rest.
 const NEARLY_FULL: usize = 98_304;

@@ -1,7 +1,7 @@
--- `device_calls::next::next` is safe and ends. The measure is the number of lines that are left. Assumes nothing.
+-- `next::next` is safe and ends. The measure is the number of lines that are left. Assumes nothing.
 use borrow.Author.Needs.{needs}
-use Rattle.device_calls.proofs.next.next.Statement.{statement}
-use Rattle.device_calls.proofs.next.next.Tie as tie
+use Rattle.streams.proofs.next.next.Statement.{statement}
+use Rattle.streams.proofs.next.next.Tie as tie
 
 abbrev Inv-loop : tie.InvT-loop
 Inv-loop calls kinds input₀ line₀ values₀ bytes₀ out₀ stream₀ turns₀ input line values bytes out stream turns = Unit {0}

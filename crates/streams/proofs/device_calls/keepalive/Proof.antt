@@ -1,8 +1,8 @@
 -- `device_calls::keepalive` is safe and ends: each turn writes one of 3 commands. Assumes nothing.
 use borrow.Author.Needs.{needs}
 use Prim.Native.Nat.{_-_}
-use Rattle.device_calls.proofs.keepalive.Statement.{statement}
-use Rattle.device_calls.proofs.keepalive.Tie as tie
+use Rattle.streams.proofs.device_calls.keepalive.Statement.{statement}
+use Rattle.streams.proofs.device_calls.keepalive.Tie as tie
 
 abbrev Inv-loop : tie.InvT-loop
 Inv-loop out₀ at actions end₀ i₀ t8 out end i = Unit {0}

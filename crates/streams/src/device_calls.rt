@@ -1,8 +1,4 @@
-// The answers that no sequence is needed for: to the calls of the device crate, and to a line that can't be read. What is left of a
-// list are the calls of sequences.
-mod bad;
-pub mod next;
-
+// The answers to the calls of the device crate.
 use device::model::DeviceModel;
 use protocol::Action;
 use reading::call::DeviceCall;
@@ -25,7 +21,7 @@ fn keepalive(actions: [Action; 3], out: &mut [u8; OUT], at: usize) -> usize {
     end
 }
 
-fn answer(call: DeviceCall, bytes: &[u8], out: &mut [u8; OUT], at: usize) -> usize {
+pub fn answer(call: DeviceCall, bytes: &[u8], out: &mut [u8; OUT], at: usize) -> usize {
     match call {
         DeviceCall::Ack(model, src, type_id) => {
             send::send(out, at, device::sends::result_ack(model, src, type_id))

@@ -1,14 +1,14 @@
 // The next call of a list that a sequence answers.
-use crate::answer;
+use crate::INPUT;
+use crate::LONGER;
+use crate::Stream;
 use crate::bad;
+use crate::device_calls;
 use reading::call::Call;
 use reading::call::Calls;
 use reading::call::is_comment;
 use reading::call::read_line;
 use scanning::bytes::BYTES;
-use streams::INPUT;
-use streams::LONGER;
-use streams::Stream;
 use words::byte_at;
 use words::kinds::Kinds;
 use words::kinds::VALUES;
@@ -53,7 +53,7 @@ impl Turn {
 fn outside(stream: Stream, call: Call, bytes: &[u8], out: &mut [u8; OUT]) -> Turn {
     match call {
         Call::Device(other) => {
-            let end = answer(other, bytes, out, stream.out);
+            let end = device_calls::answer(other, bytes, out, stream.out);
             Turn::without_call(stream.answered(out, end))
         }
         _ => Turn {
