@@ -1,5 +1,5 @@
-//! The records that cross to the library and back, laid out as
-//! crates/host, crates/abi and crates/abi_states have them.
+//! The records that cross to the library and back, laid out as crates/host,
+//! crates/abi_values, abi_messages, abi and abi_states have them.
 
 use std::fmt;
 

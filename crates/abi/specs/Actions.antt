@@ -8,10 +8,10 @@ use Rattle.protocol.specs.declared.Command.{Command}
 use Rattle.protocol.specs.declared.Command.the-variants as Cmd
 use Rattle.protocol.specs.declared.Action.{Action}
 use Rattle.protocol.specs.Addr.{byteOf}
-use Rattle.abi.specs.declared.message.CParamValue.{CParamValue}
+use Rattle.abi_values.specs.declared.CParamValue.{CParamValue}
+use Rattle.abi_values.specs.Params.{paramOut}
 use Rattle.abi.specs.declared.action.CCommand.{CCommand}
 use Rattle.abi.specs.declared.action.CAction.{CAction}
-use Rattle.abi.specs.Messages.{paramOut}
 
 abbrev pub noParam : CParamValue
 noParam = record { «param_id» = 0; format = 0; int24 = ℤ.pos 0; float40 = ofBits binary64 0 }

@@ -1,4 +1,2 @@
-pub mod Numbers
-pub mod Messages
 pub mod Actions
 pub mod Settings

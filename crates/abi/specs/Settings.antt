@@ -1,15 +1,14 @@
 -- Settings with their parameters as numbers, and back: all 32 places, counted or not. Definitions only.
 -- Assumes nothing.
-use Prim.Native.Nat.{ℕ}
 use mathlib.Core.Bool.{Bool, true, _&&_}
 use mathlib.Core.List.{List, [], _∷_, map}
 use Rattle.protocol.specs.declared.ParamValue.{ParamValue}
 use Rattle.settings.specs.declared.AvrSettings.{AvrSettings}
-use Rattle.abi.specs.declared.message.CParamValue.{CParamValue}
+use Rattle.abi_values.specs.declared.CParamValue.{CParamValue}
+use Rattle.abi_values.specs.Params.{paramIn, paramOut}
 use Rattle.abi.specs.declared.config.CSettings.{CSettings}
 use Rattle.abi.specs.declared.config.SomeParams.{SomeParams}
 use Rattle.abi.specs.declared.config.SomeSettings.{SomeSettings}
-use Rattle.abi.specs.Messages.{paramIn, paramOut}
 
 -- the format of each is known
 abbrev pub allKnown : List CParamValue → Bool

@@ -2,8 +2,8 @@
 ghost use mathlib.Core.Path.{_≡_};
 ghost use Rattle.protocol.specs.declared.Command.{Command};
 ghost use Rattle.abi.specs.Actions.{commandOut, actionOut, numbers};
-use crate::message::CParamValue;
-use crate::message::param_out;
+use abi_values::CParamValue;
+use abi_values::param_out;
 use protocol::Action;
 use protocol::Command;
 use protocol::ParamValue;

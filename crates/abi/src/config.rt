@@ -1,9 +1,9 @@
 // The settings of an AVR configuration.
 ghost use mathlib.Core.Path.{_≡_};
 ghost use Rattle.abi.specs.Settings.{paramsIn, paramsOut, settingsIn, settingsOut};
-use crate::message::CParamValue;
-use crate::message::param_in;
-use crate::message::param_out;
+use abi_values::CParamValue;
+use abi_values::param_in;
+use abi_values::param_out;
 use protocol::ParamData;
 use protocol::ParamValue;
 use settings::AvrSettings;
@@ -96,11 +96,12 @@ pub fn settings_out(settings: AvrSettings) -> CSettings
 {
     let all = settings.params;
     let params = params_out(all);
+    let len = settings.len;
     let radar_cal = settings.radar_cal;
     CSettings {
         mode: settings.mode,
         params: params,
-        len: settings.len,
+        len: len,
         radar_cal: radar_cal,
     }
 }

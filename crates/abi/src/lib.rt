@@ -1,6 +1,3 @@
-// The values that cross to a host, with numbers where the sequences have enums: a device by its byte on the bus, a refusal by its number,
-// any other case by its place in the enum of the Rust. A number that no case has is told as not known, and never taken for another.
+// Sends and settings, as they cross to a host: numbers where the sequences have enums, as abi_values has it.
 pub mod action;
 pub mod config;
-pub mod message;
-pub mod number;

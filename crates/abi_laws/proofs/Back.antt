@@ -14,9 +14,10 @@ use Rattle.protocol.specs.declared.Command.{Command}
 use Rattle.protocol.specs.declared.Command.the-variants as Cmd
 use Rattle.protocol.specs.Addr.{byteOf}
 use Rattle.device.specs.declared.model.DeviceModel.{DeviceModel}
-use Rattle.abi.specs.declared.message.CParamValue.{CParamValue}
-use Rattle.abi.specs.Numbers.{addrIn, modelIn, modelOut}
-use Rattle.abi.specs.Messages.{dspStatusIn, dspStatusOut, paramAs, paramIn, paramOut, messageIn}
+use Rattle.abi_values.specs.declared.CParamValue.{CParamValue}
+use Rattle.abi_values.specs.Numbers.{addrIn, modelIn, modelOut}
+use Rattle.abi_values.specs.Params.{paramAs, paramIn, paramOut}
+use Rattle.abi_messages.specs.Messages.{dspStatusIn, dspStatusOut, messageIn}
 use Rattle.abi.specs.Actions.{commandOut}
 use Rattle.abi.specs.Settings.{allKnown}
 use Rattle.abi_states.specs.Steps.{dspStepIn, dspStepOut, avrStepIn, avrStepOut, piStepIn, piStepOut, avrConfigStepIn, avrConfigStepOut, armStepIn, armStepOut, disarmStepIn, disarmStepOut}

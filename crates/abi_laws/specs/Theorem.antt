@@ -34,13 +34,14 @@ use Rattle.pi.specs.declared.PiSequencer.{PiSequencer}
 use Rattle.avr_config.specs.declared.AvrConfigSequencer.{AvrConfigSequencer}
 use Rattle.arm.specs.declared.ArmSequencer.{ArmSequencer}
 use Rattle.disarm.specs.declared.DisarmSequencer.{DisarmSequencer}
-use Rattle.abi.specs.declared.message.CDspStatus.{CDspStatus}
-use Rattle.abi.specs.declared.message.CParamValue.{CParamValue}
-use Rattle.abi.specs.declared.message.CMessage.{CMessage}
+use Rattle.abi_values.specs.declared.CParamValue.{CParamValue}
+use Rattle.abi_values.specs.Numbers.{addrIn, modelIn, modelOut}
+use Rattle.abi_values.specs.Params.{paramIn, paramOut}
+use Rattle.abi_messages.specs.declared.CDspStatus.{CDspStatus}
+use Rattle.abi_messages.specs.declared.CMessage.{CMessage}
+use Rattle.abi_messages.specs.Messages.{dspStatusIn, dspStatusOut, messageIn}
 use Rattle.abi.specs.declared.action.CCommand.{CCommand}
 use Rattle.abi.specs.declared.action.CAction.{CAction}
-use Rattle.abi.specs.Numbers.{addrIn, modelIn, modelOut}
-use Rattle.abi.specs.Messages.{dspStatusIn, dspStatusOut, paramIn, paramOut, messageIn}
 use Rattle.abi.specs.Actions.{actionOut}
 use Rattle.abi.specs.Settings.{settingsIn, settingsOut}
 use Rattle.abi_states.specs.States.{dspIn, dspOut, avrIn, avrOut, piIn, piOut, avrConfigIn, avrConfigOut, armIn, armOut, disarmIn, disarmOut}

@@ -9,8 +9,8 @@ use Rattle.pi.specs.declared.PiSequencer.{PiSequencer}
 use Rattle.avr_config.specs.declared.AvrConfigSequencer.{AvrConfigSequencer}
 use Rattle.arm.specs.declared.ArmSequencer.{ArmSequencer}
 use Rattle.disarm.specs.declared.DisarmSequencer.{DisarmSequencer}
-use Rattle.abi.specs.Numbers.{addrIn, modelIn, modelOut}
-use Rattle.abi.specs.Messages.{dspStatusIn, dspStatusOut}
+use Rattle.abi_values.specs.Numbers.{addrIn, modelIn, modelOut}
+use Rattle.abi_messages.specs.Messages.{dspStatusIn, dspStatusOut}
 use Rattle.abi.specs.Settings.{settingsIn, settingsOut}
 use Rattle.abi_states.specs.declared.c_dsp.COptionNack.{COptionNack}
 use Rattle.abi_states.specs.declared.c_dsp.SomeNack.{SomeNack}

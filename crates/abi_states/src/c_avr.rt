@@ -2,8 +2,8 @@
 ghost use mathlib.Core.Path.{_≡_};
 ghost use Rattle.abi_states.specs.Steps.{avrStepIn, avrStepOut};
 ghost use Rattle.abi_states.specs.States.{avrIn, avrOut};
-use abi::number::model_in;
-use abi::number::model_out;
+use abi_values::model_in;
+use abi_values::model_out;
 use avr::AvrSequencer;
 use avr_steps::AvrReplies;
 use avr_steps::AvrState;

@@ -2,10 +2,10 @@
 ghost use mathlib.Core.Path.{_≡_};
 ghost use Rattle.abi_states.specs.Steps.{dspStepIn, dspStepOut};
 ghost use Rattle.abi_states.specs.States.{nackIn, nackOut, dspIn, dspOut};
-use abi::message::CDspStatus;
-use abi::message::dsp_status_in;
-use abi::message::dsp_status_out;
-use abi::number::addr_in;
+use abi_messages::CDspStatus;
+use abi_messages::dsp_status_in;
+use abi_messages::dsp_status_out;
+use abi_values::addr_in;
 use dsp::DspSequencer;
 use dsp_steps::DspReplies;
 use dsp_steps::DspState;

@@ -8,9 +8,9 @@ use Rattle.protocol.specs.declared.BusAddr.{BusAddr}
 use Rattle.protocol.specs.declared.Action.{Action}
 use Rattle.protocol.specs.Action.{noAction}
 use Rattle.device.specs.Sends as device
+use Rattle.abi_values.specs.Numbers.{addrIn, modelIn}
+use Rattle.abi_messages.specs.declared.SomeEnvelope.{SomeEnvelope}
 use Rattle.abi.specs.declared.action.CAction.{CAction}
-use Rattle.abi.specs.declared.message.SomeEnvelope.{SomeEnvelope}
-use Rattle.abi.specs.Numbers.{addrIn, modelIn}
 use Rattle.abi.specs.Actions.{actionOut}
 use Rattle.sequence.specs.Events.{Envelope}
 use lib.IntN.{ℤ}

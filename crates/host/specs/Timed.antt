@@ -12,9 +12,9 @@ use Rattle.dsp.specs.Answers as dsp
 use Rattle.avr.specs.declared.AvrStarted.{AvrStarted}
 use Rattle.avr.specs.declared.AvrFed.{AvrFed}
 use Rattle.avr.specs.Answers as avr
-use Rattle.abi.specs.declared.message.CEnvelope.{CEnvelope}
-use Rattle.abi.specs.Numbers.{modelIn, modelOut, refusalOut}
-use Rattle.abi.specs.Messages.{envelopeIn, dspStatusOut}
+use Rattle.abi_values.specs.Numbers.{modelIn, modelOut, refusalOut}
+use Rattle.abi_messages.specs.declared.CEnvelope.{CEnvelope}
+use Rattle.abi_messages.specs.Messages.{envelopeIn, dspStatusOut}
 use Rattle.abi.specs.Actions.{actionOut}
 use Rattle.abi_states.specs.declared.c_dsp.CDsp.{CDsp}
 use Rattle.abi_states.specs.declared.c_avr.CAvr.{CAvr}

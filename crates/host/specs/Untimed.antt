@@ -18,10 +18,10 @@ use Rattle.arm.specs.Answers as arm
 use Rattle.disarm.specs.declared.DisarmStarted.{DisarmStarted}
 use Rattle.disarm.specs.declared.DisarmFed.{DisarmFed}
 use Rattle.disarm.specs.Answers as disarm
-use Rattle.abi.specs.declared.message.CEnvelope.{CEnvelope}
+use Rattle.abi_values.specs.Numbers.{modelIn, refusalOut}
+use Rattle.abi_messages.specs.declared.CEnvelope.{CEnvelope}
+use Rattle.abi_messages.specs.Messages.{envelopeIn}
 use Rattle.abi.specs.declared.config.CSettings.{CSettings}
-use Rattle.abi.specs.Numbers.{modelIn, refusalOut}
-use Rattle.abi.specs.Messages.{envelopeIn}
 use Rattle.abi.specs.Actions.{actionOut}
 use Rattle.abi.specs.Settings.{settingsIn}
 use Rattle.abi_states.specs.declared.c_pi.CPi.{CPi}

@@ -6,12 +6,12 @@ ghost use Rattle.host.specs.Untimed.{piStarted, piFed, piDeclined, piFee
 use crate::UNKNOWN;
 use abi::action::CAction;
 use abi::action::action_out;
-use abi::message::CEnvelope;
-use abi::message::envelope_in;
-use abi::number::refusal_out;
+use abi_messages::CEnvelope;
+use abi_messages::envelope_in;
 use abi_states::c_pi::CPi;
 use abi_states::c_pi::pi_in;
 use abi_states::c_pi::pi_out;
+use abi_values::refusal_out;
 use pi::PiFed;
 use pi::PiSequencer;
 use pi::PiSync;

@@ -2,14 +2,14 @@
 ghost use mathlib.Core.Path.{_≡_};
 ghost use denote.Ref.{now};
 ghost use Rattle.device.specs.Model.{modelOf};
-ghost use Rattle.abi.specs.Numbers.{modelOut};
+ghost use Rattle.abi_values.specs.Numbers.{modelOut};
 ghost use Rattle.host.specs.Sends.{resultAck, keepaliveOut, keepalive};
 use crate::UNKNOWN;
 use abi::action::CAction;
 use abi::action::action_out;
-use abi::number::addr_in;
-use abi::number::model_in;
-use abi::number::model_out;
+use abi_values::addr_in;
+use abi_values::model_in;
+use abi_values::model_out;
 use device::model::DeviceModel;
 use device::sends;
 use protocol::Action;

@@ -3,7 +3,7 @@
 use borrow.Author.Needs.{needs}
 use Rattle.abi.proofs.action.param_value.Statement.{statement}
 use Rattle.abi.proofs.action.param_value.Tie as tie
-use Rattle.abi.proofs.message.param_out.Reads as param-out-reads
+use Rattle.abi_values.proofs.param_out.Reads as param-out-reads
 
 param-out-requires : tie.Need-param-out-requires
 param-out-requires c κs = search needs

@@ -5,16 +5,16 @@ use borrow.Author.Needs.{needs}
 use mathlib.Core.Path.{_≡_, refl}
 use native.Mathlib.Omega.{arith}
 use Rattle.protocol.proofs.Filled.{filled}
-use Rattle.abi.proofs.Tables.{image, images, known-more}
+use Rattle.abi.proofs.Images.{image, images, known-more}
 use Rattle.abi.specs.Settings.{allKnown, paramsIn}
-use Rattle.abi.specs.Messages.{paramIn}
+use Rattle.abi_values.specs.Params.{paramIn}
 use Rattle.settings.specs.Settings.{noParam}
 use lib.ListN.{length, take}
-use Rattle.abi.specs.declared.message.CParamValue.{CParamValue}
+use Rattle.abi_values.specs.declared.CParamValue.{CParamValue}
 use lib.Seq.{take-all}
 use Rattle.abi.proofs.config.params_in.Statement.{statement}
 use Rattle.abi.proofs.config.params_in.Tie as tie
-use Rattle.abi.proofs.message.param_in.Reads as param-in-reads
+use Rattle.abi_values.proofs.param_in.Reads as param-in-reads
 
 abbrev Inv-loop : tie.InvT-loop
 Inv-loop params known₀ value₀ i₀ known value i = (i ≤ 32) × (known ≡ allKnown (take i params)) × (value ≡ filled 32 noParam (paramsIn params .value) i)

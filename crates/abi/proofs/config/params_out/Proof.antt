@@ -5,14 +5,14 @@ use borrow.Author.Needs.{needs}
 use mathlib.Core.Path.{_≡_, refl}
 use native.Mathlib.Omega.{arith}
 use Rattle.protocol.proofs.Filled.{filled}
-use Rattle.abi.proofs.Tables.{image, images}
+use Rattle.abi.proofs.Images.{image, images}
 use Rattle.abi.specs.Settings.{paramsOut}
-use Rattle.abi.specs.Messages.{paramOut}
+use Rattle.abi_values.specs.Params.{paramOut}
 use Rattle.abi.specs.Actions.{noParam as none}
 use lib.ListN.{length}
 use Rattle.abi.proofs.config.params_out.Statement.{statement}
 use Rattle.abi.proofs.config.params_out.Tie as tie
-use Rattle.abi.proofs.message.param_out.Reads as param-out-reads
+use Rattle.abi_values.proofs.param_out.Reads as param-out-reads
 
 abbrev Inv-loop : tie.InvT-loop
 Inv-loop params value₀ i₀ value i = (i ≤ 32) × (value ≡ filled 32 none (paramsOut params) i)

@@ -3,7 +3,7 @@
 use borrow.Author.Needs.{needs}
 use Rattle.abi_states.proofs.c_avr.avr_in.Statement.{statement}
 use Rattle.abi_states.proofs.c_avr.avr_in.Tie as tie
-use Rattle.abi.proofs.number.model_in.Reads as model-in-reads
+use Rattle.abi_values.proofs.model_in.Reads as model-in-reads
 use Rattle.abi_states.proofs.c_avr.step_in.Reads as step-in-reads
 
 step-in-requires : tie.Need-step-in-requires

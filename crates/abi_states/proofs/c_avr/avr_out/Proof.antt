@@ -3,7 +3,7 @@
 use borrow.Author.Needs.{needs}
 use Rattle.abi_states.proofs.c_avr.avr_out.Statement.{statement}
 use Rattle.abi_states.proofs.c_avr.avr_out.Tie as tie
-use Rattle.abi.proofs.number.model_out.Reads as model-out-reads
+use Rattle.abi_values.proofs.model_out.Reads as model-out-reads
 use Rattle.abi_states.proofs.c_avr.step_out.Reads as step-out-reads
 
 step-out-requires : tie.Need-step-out-requires

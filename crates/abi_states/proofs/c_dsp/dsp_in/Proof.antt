@@ -3,7 +3,7 @@
 use borrow.Author.Needs.{needs}
 use Rattle.abi_states.proofs.c_dsp.dsp_in.Statement.{statement}
 use Rattle.abi_states.proofs.c_dsp.dsp_in.Tie as tie
-use Rattle.abi.proofs.message.dsp_status_in.Reads as dsp-status-in-reads
+use Rattle.abi_messages.proofs.dsp_status_in.Reads as dsp-status-in-reads
 use Rattle.abi_states.proofs.c_dsp.nack_in.Reads as nack-in-reads
 use Rattle.abi_states.proofs.c_dsp.step_in.Reads as step-in-reads
 

@@ -3,7 +3,7 @@
 use borrow.Author.Needs.{needs}
 use Rattle.abi_states.proofs.c_dsp.dsp_out.Statement.{statement}
 use Rattle.abi_states.proofs.c_dsp.dsp_out.Tie as tie
-use Rattle.abi.proofs.message.dsp_status_out.Reads as dsp-status-out-reads
+use Rattle.abi_messages.proofs.dsp_status_out.Reads as dsp-status-out-reads
 use Rattle.abi_states.proofs.c_dsp.nack_out.Reads as nack-out-reads
 use Rattle.abi_states.proofs.c_dsp.step_out.Reads as step-out-reads
 

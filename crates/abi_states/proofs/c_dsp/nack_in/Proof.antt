@@ -3,7 +3,7 @@
 use borrow.Author.Needs.{needs}
 use Rattle.abi_states.proofs.c_dsp.nack_in.Statement.{statement}
 use Rattle.abi_states.proofs.c_dsp.nack_in.Tie as tie
-use Rattle.abi.proofs.number.addr_in.Reads as addr-in-reads
+use Rattle.abi_values.proofs.addr_in.Reads as addr-in-reads
 
 addr-in-requires : tie.Need-addr-in-requires
 addr-in-requires c κs = search needs

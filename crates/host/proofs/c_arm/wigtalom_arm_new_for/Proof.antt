@@ -3,7 +3,7 @@
 use borrow.Author.Needs.{needs}
 use Rattle.host.proofs.c_arm.wigtalom_arm_new_for.Statement.{statement}
 use Rattle.host.proofs.c_arm.wigtalom_arm_new_for.Tie as tie
-use Rattle.abi.proofs.number.model_in.Reads as model-in-reads
+use Rattle.abi_values.proofs.model_in.Reads as model-in-reads
 use Rattle.arm.proofs.ArmSequencer.new_for.Reads as new-for-reads
 use Rattle.host.proofs.c_arm.declined.Reads as declined-reads
 use Rattle.host.proofs.c_arm.started_out.Reads as started-out-reads

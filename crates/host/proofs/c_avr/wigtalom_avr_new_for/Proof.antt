@@ -3,7 +3,7 @@
 use borrow.Author.Needs.{needs}
 use Rattle.host.proofs.c_avr.wigtalom_avr_new_for.Statement.{statement}
 use Rattle.host.proofs.c_avr.wigtalom_avr_new_for.Tie as tie
-use Rattle.abi.proofs.number.model_in.Reads as model-in-reads
+use Rattle.abi_values.proofs.model_in.Reads as model-in-reads
 use Rattle.avr.proofs.AvrSequencer.new_for.Reads as new-for-reads
 use Rattle.host.proofs.c_avr.declined.Reads as declined-reads
 use Rattle.host.proofs.c_avr.started_out.Reads as started-out-reads

@@ -3,8 +3,8 @@
 use borrow.Author.Needs.{needs}
 use Rattle.host.proofs.c_dsp.sync_out.Statement.{statement}
 use Rattle.host.proofs.c_dsp.sync_out.Tie as tie
-use Rattle.abi.proofs.message.dsp_status_out.Reads as dsp-status-out-reads
-use Rattle.abi.proofs.number.model_out.Reads as model-out-reads
+use Rattle.abi_messages.proofs.dsp_status_out.Reads as dsp-status-out-reads
+use Rattle.abi_values.proofs.model_out.Reads as model-out-reads
 
 dsp-status-out-requires : tie.Need-dsp-status-out-requires
 dsp-status-out-requires c κs = search needs

@@ -4,7 +4,7 @@ use borrow.Author.Needs.{needs}
 use Rattle.host.proofs.sends.wigtalom_keepalive.Statement.{statement}
 use Rattle.host.proofs.sends.wigtalom_keepalive.Tie as tie
 use Rattle.abi.proofs.action.action_out.Reads as action-out-reads
-use Rattle.abi.proofs.number.model_in.Reads as model-in-reads
+use Rattle.abi_values.proofs.model_in.Reads as model-in-reads
 use Rattle.device.proofs.sends.keepalive_actions_for.Reads as keepalive-actions-for-reads
 use Rattle.host.proofs.sends.three.Reads as three-reads
 use Rattle.protocol.proofs.Action.none.Reads as none-reads

@@ -3,7 +3,7 @@
 use borrow.Author.Needs.{needs}
 use Rattle.host.proofs.sends.wigtalom_model.Statement.{statement}
 use Rattle.host.proofs.sends.wigtalom_model.Tie as tie
-use Rattle.abi.proofs.number.model_out.Reads as model-out-reads
+use Rattle.abi_values.proofs.model_out.Reads as model-out-reads
 use Rattle.device.proofs.model.DeviceModel.from_dev_info.Reads as from-dev-info-reads
 
 from-dev-info-requires : tie.Need-from-dev-info-requires

@@ -4,8 +4,8 @@ use borrow.Author.Needs.{needs}
 use Rattle.host.proofs.sends.wigtalom_result_ack.Statement.{statement}
 use Rattle.host.proofs.sends.wigtalom_result_ack.Tie as tie
 use Rattle.abi.proofs.action.action_out.Reads as action-out-reads
-use Rattle.abi.proofs.number.addr_in.Reads as addr-in-reads
-use Rattle.abi.proofs.number.model_in.Reads as model-in-reads
+use Rattle.abi_values.proofs.addr_in.Reads as addr-in-reads
+use Rattle.abi_values.proofs.model_in.Reads as model-in-reads
 use Rattle.device.proofs.sends.result_ack.Reads as result-ack-reads
 use Rattle.protocol.proofs.Action.none.Reads as none-reads
 
