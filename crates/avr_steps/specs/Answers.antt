@@ -13,7 +13,7 @@ use Rattle.protocol.specs.Kinds.{configNack}
 use Rattle.device.specs.declared.model.DeviceModel.{DeviceModel}
 use Rattle.sequence.specs.declared.OptionInstant.{OptionInstant}
 use Rattle.sequence.specs.Events.{Event, fed, checked, reading, Wait, forever, nanos, acking}
-use Rattle.sequence.specs.Rows.{State, Moved, past, noDeadline, deadlineAt, heardAt, heard}
+use Rattle.sequence.specs.Rows.{State, Moved, past, noDeadline, orAfter, reached, heardAt, heard}
 use Rattle.avr_steps.specs.declared.AvrStep.{AvrStep}
 use Rattle.avr_steps.specs.declared.AvrStep.the-variants.{WaitStatus1, WaitStatus2, WaitDevInfo1, WaitDevInfo2, WaitParam0C, WaitParam0D, WaitConfig, WaitFactoryCal, WaitIfCal, WaitAvrConfig, WaitParam64, WaitTimeSync, Done}
 use Rattle.avr_steps.specs.declared.AvrReplies.{AvrReplies}
@@ -57,9 +57,6 @@ order Done = 13
 abbrev pub polling : AvrState → Bool
 polling s = leb (order (s .step)) 2
 
-abbrev pub reached : OptionInstant → ℕ → Bool
-reached d t = d .some && leb (d .value) t
-
 abbrev pub sends : Action → AvrState → AvrMoved
 sends a s = record { action = a; state = s }
 
@@ -72,7 +69,7 @@ abbrev pub withRepoll : AvrState → OptionInstant → AvrState
 withRepoll s r = record { step = s .step; model = s .model; replies = s .replies; «cal_deadline» = s .«cal_deadline»; «repoll_at» = r }
 
 abbrev pub later : OptionInstant → ℕ → OptionInstant
-later r t = cond (r .some) r (deadlineAt t 1_000_000_000)
+later r t = orAfter r t 1_000_000_000
 
 abbrev pub willRepoll : AvrState → Event Dated → AvrMoved
 willRepoll s e = sends noAction (withRepoll s (later (s .«repoll_at») (reading e)))

@@ -193,10 +193,7 @@ impl AvrState {
         ensures { λ r. ⌜ r ≡ sends noAction (withRepoll self (later (self .«repoll_at») now)) ⌝ }
     {
         let pending = self.repoll_at;
-        if pending.some {
-            return self.idle();
-        }
-        let at = OptionInstant::after(now, STATUS_REPOLL_INTERVAL);
+        let at = pending.or_after(now, STATUS_REPOLL_INTERVAL);
         self.with_repoll(at).idle()
     }
 
@@ -393,10 +390,7 @@ impl AvrState {
         ensures { λ r. ⌜ r ≡ advance self (checked now) ⌝ }
     {
         let deadline = self.cal_deadline;
-        if !deadline.some {
-            return self.idle();
-        }
-        if now < deadline.value {
+        if !deadline.reached(now) {
             return self.idle();
         }
         let step = self.step;
@@ -412,10 +406,7 @@ impl AvrState {
         ensures { λ r. ⌜ r ≡ answered self (checked now) ⌝ }
     {
         let at = self.repoll_at;
-        if !at.some {
-            return self.check_cal(now);
-        }
-        if now < at.value {
+        if !at.reached(now) {
             return self.check_cal(now);
         }
         let state = self.with_repoll(OptionInstant::none());

@@ -47,6 +47,21 @@ reached d t n h = go (d .some) n
     go true i = le-leb (d .value) t h
     go false i = absurd (true≢false i)
 
+pub not-true : (b : Bool) → not b ≡ true → b ≡ false
+not-true true h = absurd (true≢false (sym h))
+not-true false h = refl
+
+pub not-false : (b : Bool) → not b ≡ false → b ≡ true
+not-false true h = refl
+not-false false h = absurd (true≢false h)
+
+pub set : (d : OptionInstant) (t : ℕ) → not (d .some) ≡ false → leb (d .value) t ≡ d .some && leb (d .value) t
+set d t h = go (d .some) h
+  where
+    go : (b : Bool) → not b ≡ false → leb (d .value) t ≡ b && leb (d .value) t
+    go true i = refl
+    go false i = absurd (true≢false i)
+
 pub waitless : (w : Wait) (d : OptionInstant) (t : ℕ) → w ≡ forever → due w d t ≡ false
 waitless w d t h = rw h
 

@@ -47,12 +47,20 @@ noDeadline = record { some = false; value = 0 }
 abbrev pub deadlineAt : ℕ → ℕ → OptionInstant
 deadlineAt t n = cond (leb (t + n) 18_446_744_073_709_551_615) (record { some = true; value = t + n }) noDeadline
 
+-- d, or n after t where there is none
+abbrev pub orAfter : OptionInstant → ℕ → ℕ → OptionInstant
+orAfter d t n = cond (d .some) d (deadlineAt t n)
+
+-- the reading t is at it or past it
+abbrev pub reached : OptionInstant → ℕ → Bool
+reached d t = d .some && leb (d .value) t
+
 -- ---- an accepted event
 
 -- a check ticks a row with a wait once the deadline is reached
 abbrev pub due : Wait → OptionInstant → ℕ → Bool
 due forever d t = false
-due (nanos n) d t = d .some && leb (d .value) t
+due (nanos n) d t = reached d t
 
 abbrev pub passes : {A Y : Type 0} → Row A Y → OptionInstant → Event A → Bool
 passes r d (fed a t) = r .reply a

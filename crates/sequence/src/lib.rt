@@ -2,7 +2,7 @@
 ghost use mathlib.Core.Path.{_≡_};
 ghost use Rattle.protocol.specs.Refusals.{outcome, lowest};
 ghost use Rattle.sequence.specs.Accepted.{bytesRefusals, feedRefusals, checkRefusals};
-ghost use Rattle.sequence.specs.Rows.{noDeadline, deadlineAt};
+ghost use Rattle.sequence.specs.Rows.{noDeadline, deadlineAt, orAfter, reached};
 ghost use denote.Ref.{now as held};
 use protocol::Outcome;
 use protocol::Refusal;
@@ -42,6 +42,26 @@ impl OptionInstant {
             some: true,
             value: now + wait,
         }
+    }
+
+    // Itself, or `wait` nanoseconds after `now` where there is none.
+    pub fn or_after(self, now: u64, wait: u64) -> OptionInstant
+        ensures { λ r. ⌜ r ≡ orAfter self now wait ⌝ }
+    {
+        if self.some {
+            return self;
+        }
+        OptionInstant::after(now, wait)
+    }
+
+    // Whether the clock is at it or past it.
+    pub fn reached(self, now: u64) -> bool
+        ensures { λ r. ⌜ r ≡ reached self now ⌝ }
+    {
+        if !self.some {
+            return false;
+        }
+        self.value <= now
     }
 }
 
