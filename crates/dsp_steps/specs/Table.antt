@@ -2,7 +2,7 @@
 -- stored; then the steps at which they are awaited. Definitions only.
 -- Assumes nothing.
 use Prim.Native.Nat.{ℕ, _+_}
-use mathlib.Core.Bool.{cond}
+use mathlib.Core.Bool.{false, cond}
 use mathlib.Core.List.{List, [], _∷_, map}
 use Rattle.protocol.specs.declared.BusAddr.{BusAddr}
 use Rattle.protocol.specs.declared.Command.{Command}
@@ -11,6 +11,7 @@ use Rattle.protocol.specs.Action.{noAction, sendTo}
 use Rattle.protocol.specs.Kinds.{dspStatus, configAck, configNack, configResp, dspQueryResp, devInfoResp, prodInfoResp}
 use Rattle.device.specs.declared.model.DeviceModel.{DeviceModel}
 use Rattle.device.specs.Model.{hasPowerMode}
+use Rattle.device.specs.Sends.{poll}
 use Rattle.matching.specs.Matching.{Table}
 use Rattle.sequence.specs.Events.{Envelope, Event, Wait, forever, nanos, acking, either}
 use Rattle.sequence.specs.Rows.{Row, test, past}
@@ -93,6 +94,18 @@ next m WaitProdInfo2 = WaitConfig
 next m WaitConfig = cond (hasPowerMode m) WaitPowerMode Done
 next m WaitPowerMode = Done
 next m Done = Done
+
+-- what is asked when a step begins: what the entry before it sends (the first step begins with a new start-up, which polls)
+abbrev pub request : DspStep → Action
+request WaitStatus = poll false BusAddr.Dsp
+request WaitDspQuery = sendTo BusAddr.Dsp Command.DspQuery
+request WaitDevInfo = sendTo BusAddr.Dsp Command.DevInfoReq
+request WaitProdInfo0 = prodInfoReq 0x00
+request WaitProdInfo1 = prodInfoReq 0x08
+request WaitProdInfo2 = prodInfoReq 0x09
+request WaitConfig = sendTo BusAddr.Dsp Command.ConfigQuery
+request WaitPowerMode = powerMode
+request Done = noAction
 
 abbrev pub table : DeviceModel → Table (Event Envelope)
 table m = map (λ k. test (row m k)) (stepsFor m)

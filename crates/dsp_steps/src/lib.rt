@@ -4,23 +4,18 @@ ghost use mathlib.Core.Path.{_≡_};
 ghost use mathlib.Core.List.{[]};
 ghost use Prim.Native.Nat.{_<_, _+_};
 ghost use denote.Ref.{now as held};
-ghost use Rattle.protocol.specs.Action.{noAction, sendTo};
-ghost use Rattle.protocol.specs.declared.BusAddr.{BusAddr};
 ghost use Rattle.protocol.specs.Carried.{noDspStatus};
-ghost use Rattle.protocol.specs.declared.Command.{Command};
-ghost use Rattle.protocol.specs.declared.Message.{Message};
 ghost use Rattle.device.specs.Model.{modelIn};
 ghost use Rattle.sequence.specs.Events.{checked};
 ghost use Rattle.sequence.specs.Rows.{idle, past, noDeadline};
 ghost use Rattle.dsp_steps.specs.declared.DspStep.{DspStep};
-ghost use Rattle.dsp_steps.specs.Stores.{statusReply, noHwInfo, noReplies, prodInfoReq, powerMode};
-ghost use Rattle.dsp_steps.specs.Table.{entry1, entry2, entry3, entry4, entry7, entry8, prodInfo, next, row};
+ghost use Rattle.dsp_steps.specs.Stores.{statusReply, noReplies};
+ghost use Rattle.dsp_steps.specs.Table.{entry1, entry2, entry3, entry4, entry7, entry8, prodInfo, next, row, request};
 ghost use Rattle.dsp_steps.specs.Answers.{begun, view, made, answered, sent, armAt};
 use device::model::DeviceModel;
 use protocol::Action;
 use protocol::BusAddr;
 use protocol::Command;
-use protocol::ConfigAck;
 use protocol::ConfigResp;
 use protocol::DevInfoResp;
 use protocol::DspQueryResp;
@@ -34,6 +29,7 @@ use protocol::ParamData;
 use protocol::ParamValue;
 use protocol::ProdInfoReq;
 use protocol::ProdInfoResp;
+use protocol::StatusPoll;
 use protocol::Stored;
 use sequence::OptionInstant;
 
@@ -119,26 +115,12 @@ fn no_status() -> DspStatus
     })
 }
 
-fn no_hw_info() -> OptionDspQueryResp
-    ensures { λ r. ⌜ r ≡ noHwInfo ⌝ }
-{
-    OptionDspQueryResp {
-        some: false,
-        value: DspQueryResp {
-            version: 0,
-            dsp_type: 0,
-            pcb: 0,
-        },
-    }
-}
-
 impl DspReplies {
     fn none() -> DspReplies
         ensures { λ r. ⌜ r ≡ noReplies ⌝ }
     {
         let bytes = Stored::empty();
         let status = no_status();
-        let hw_info = no_hw_info();
         let prod_info = ProdInfoResp { text: bytes };
         let refused = OptionNack::none();
         DspReplies {
@@ -147,7 +129,14 @@ impl DspReplies {
                 value: status,
                 payload: bytes,
             },
-            hw_info: hw_info,
+            hw_info: OptionDspQueryResp {
+                some: false,
+                value: DspQueryResp {
+                    version: 0,
+                    dsp_type: 0,
+                    pcb: 0,
+                },
+            },
             dev_info: OptionDevInfoResp {
                 some: false,
                 value: DevInfoResp {
@@ -191,42 +180,60 @@ fn status_reply(status: DspStatus, payload: &[u8]) -> OptionDspStatus
     }
 }
 
-fn prod_info_req(sub_query: u8) -> Action
-    ensures { λ r. ⌜ r ≡ prodInfoReq «sub_query» ⌝ }
+// ---- what is asked
+
+// The command of a step's request. A new start-up polls (crate dsp); at Done, where nothing is sent, it is that of an absent send.
+fn command(step: DspStep) -> Command
+    ensures { λ r. ⌜ r ≡ request step .command ⌝ }
 {
-    Action::send(
-        Command::ProdInfoReq(ProdInfoReq {
-            sub_query: sub_query,
-        }),
-        BusAddr::Dsp,
-    )
+    match step {
+        DspStep::WaitDspQuery => return Command::DspQuery,
+        DspStep::WaitDevInfo => return Command::DevInfoReq,
+        DspStep::WaitProdInfo0 => return Command::ProdInfoReq(ProdInfoReq { sub_query: 0x00 }),
+        DspStep::WaitProdInfo1 => return Command::ProdInfoReq(ProdInfoReq { sub_query: 0x08 }),
+        DspStep::WaitProdInfo2 => return Command::ProdInfoReq(ProdInfoReq { sub_query: 0x09 }),
+        DspStep::WaitConfig => return Command::ConfigQuery,
+        DspStep::WaitPowerMode => {
+            return Command::ParamValue(ParamValue {
+                param_id: XI_DSP_POWER_MODE_ID,
+                value: ParamData::Int24(XI_DSP_POWER_MODE_NORMAL),
+            });
+        }
+        _ => return Command::StatusPoll(StatusPoll { pi_mode: false }),
+    }
 }
 
-fn power_mode() -> Action
-    ensures { λ r. ⌜ r ≡ powerMode ⌝ }
+// What is asked when a step begins.
+fn request(step: DspStep) -> Action
+    ensures { λ r. ⌜ r ≡ request step ⌝ }
 {
-    Action::send(
-        Command::ParamValue(ParamValue {
-            param_id: XI_DSP_POWER_MODE_ID,
-            value: ParamData::Int24(XI_DSP_POWER_MODE_NORMAL),
-        }),
-        BusAddr::Dsp,
-    )
+    match step {
+        DspStep::Done => return Action::none(),
+        _ => return Action::send(command(step), BusAddr::Dsp),
+    }
 }
 
 // ---- an envelope from the DSP, by step
 
-fn moved(step: DspStep, replies: DspReplies, deadline: OptionInstant, action: Action) -> DspMoved
-    ensures { λ r. ⌜ r ≡ record { action = action; state = record { step = step; replies = replies; deadline = deadline } } ⌝ }
+// A step begins.
+fn moved(step: DspStep, replies: DspReplies, deadline: OptionInstant) -> DspMoved
+    ensures { λ r. ⌜ r ≡ record { action = request step; state = record { step = step; replies = replies; deadline = deadline } } ⌝ }
 {
     DspMoved {
-        action: action,
+        action: request(step),
         state: DspState {
             step: step,
             replies: replies,
             deadline: deadline,
         },
     }
+}
+
+// A wait is over, with or without a reply.
+fn waited(step: DspStep, replies: DspReplies) -> DspMoved
+    ensures { λ r. ⌜ r ≡ record { action = request step; state = record { step = step; replies = replies; deadline = noDeadline } } ⌝ }
+{
+    moved(step, replies, OptionInstant::none())
 }
 
 impl DspState {
@@ -261,29 +268,19 @@ impl DspState {
             let status = status_reply(s, payload);
             replies.status = status;
             let deadline = OptionInstant::after(now, DSP_QUERY_TIMEOUT);
-            let action = Action::send(Command::DspQuery, BusAddr::Dsp);
-            return moved(DspStep::WaitDspQuery, replies, deadline, action);
+            return moved(DspStep::WaitDspQuery, replies, deadline);
         }
         self.idle()
     }
 
-    // To the device info, with or without a reply to the DSP query.
-    fn to_dev_info(replies: DspReplies) -> DspMoved
-        ensures { λ r. ⌜ r ≡ record { action = sendTo BusAddr.Dsp Command.DevInfoReq; state = record { step = DspStep.WaitDevInfo; replies = replies; deadline = noDeadline } } ⌝ }
-    {
-        let action = Action::send(Command::DevInfoReq, BusAddr::Dsp);
-        moved(DspStep::WaitDevInfo, replies, OptionInstant::none(), action)
-    }
-
-    fn wait_dsp_query(self, message: Message, now: u64) -> DspMoved
-        ensures { λ r. ⌜ r ≡ armAt entry2 DspStep.WaitDevInfo entry3 self (sent 0 message [] [] [] now) ⌝ }
+    fn wait_dsp_query(self, message: Message) -> DspMoved
+        ensures { λ r. ⌜ r ≡ armAt entry2 DspStep.WaitDevInfo entry3 self (sent 0 message [] [] [] 0) ⌝ }
     {
         match message {
             Message::ConfigNack(nack) => {
                 if nack.acked_cmd == DSP_QUERY {
-                    return DspState::to_dev_info(self.replies);
+                    return waited(DspStep::WaitDevInfo, self.replies);
                 }
-                return self.idle();
             }
             Message::DspQueryResp(r) => {
                 let mut replies = self.replies;
@@ -292,14 +289,15 @@ impl DspState {
                     value: r,
                 };
                 replies.hw_info = hw_info;
-                return DspState::to_dev_info(replies);
+                return waited(DspStep::WaitDevInfo, replies);
             }
-            _ => return self.idle(),
+            _ => {}
         }
+        self.idle()
     }
 
-    fn wait_dev_info(self, message: Message, text: &[u8], payload: &[u8], now: u64) -> DspMoved
-        ensures { λ r. ⌜ r ≡ armAt entry3 DspStep.WaitProdInfo0 entry4 self (sent 0 message [] (held (text .entry)) (held (payload .entry)) now) ⌝ }
+    fn wait_dev_info(self, message: Message, text: &[u8], payload: &[u8]) -> DspMoved
+        ensures { λ r. ⌜ r ≡ armAt entry3 DspStep.WaitProdInfo0 entry4 self (sent 0 message [] (held (text .entry)) (held (payload .entry)) 0) ⌝ }
     {
         if let Message::DevInfoResp = message {
             let mut replies = self.replies;
@@ -311,28 +309,15 @@ impl DspState {
                 },
             };
             replies.dev_info = dev_info;
-            return moved(
-                DspStep::WaitProdInfo0,
-                replies,
-                self.deadline,
-                prod_info_req(0x00),
-            );
+            return moved(DspStep::WaitProdInfo0, replies, self.deadline);
         }
         self.idle()
     }
 
-    // The product info number i, from 0; then `action` is sent, and the step is `step`.
-    fn wait_prod_info(
-        self,
-        i: usize,
-        step: DspStep,
-        action: Action,
-        message: Message,
-        text: &[u8],
-        now: u64,
-    ) -> DspMoved
+    // The product info number i, from 0; then the step is `step`.
+    fn wait_prod_info(self, i: usize, step: DspStep, message: Message, text: &[u8]) -> DspMoved
         requires { ⌜ i < 3 ⌝ }
-        ensures { λ r. ⌜ r ≡ armAt (prodInfo i action) step past self (sent 0 message [] (held (text .entry)) [] now) ⌝ }
+        ensures { λ r. ⌜ r ≡ armAt (prodInfo i (request step)) step past self (sent 0 message [] (held (text .entry)) [] 0) ⌝ }
     {
         if let Message::ProdInfoResp = message {
             let mut replies = self.replies;
@@ -340,7 +325,7 @@ impl DspState {
                 text: Stored::from_slice(text),
             };
             replies.prod_info[i] = prod_info;
-            return moved(step, replies, self.deadline, action);
+            return moved(step, replies, self.deadline);
         }
         self.idle()
     }
@@ -358,54 +343,38 @@ impl DspState {
             replies.config = config;
             if model.has_power_mode() {
                 let deadline = OptionInstant::after(now, DSP_QUERY_TIMEOUT);
-                return moved(DspStep::WaitPowerMode, replies, deadline, power_mode());
+                return moved(DspStep::WaitPowerMode, replies, deadline);
             }
-            return moved(DspStep::Done, replies, self.deadline, Action::none());
+            return moved(DspStep::Done, replies, self.deadline);
         }
         self.idle()
     }
 
-    fn done(replies: DspReplies) -> DspMoved
-        ensures { λ r. ⌜ r ≡ record { action = noAction; state = record { step = DspStep.Done; replies = replies; deadline = noDeadline } } ⌝ }
-    {
-        let action = Action::none();
-        moved(DspStep::Done, replies, OptionInstant::none(), action)
-    }
-
-    fn power_mode_acked(self, ack: ConfigAck) -> DspMoved
-        ensures { λ r. ⌜ r ≡ armAt entry8 DspStep.Done past self (sent 0 (Message.ConfigAck ack) [] [] [] 0) ⌝ }
-    {
-        if ack.acked_cmd == PARAM_VALUE {
-            return DspState::done(self.replies);
-        }
-        self.idle()
-    }
-
-    fn power_mode_refused(self, type_id: u8, nack: ConfigAck) -> DspMoved
-        ensures { λ r. ⌜ r ≡ armAt entry8 DspStep.Done past self (sent «type_id» (Message.ConfigNack nack) [] [] [] 0) ⌝ }
-    {
-        if nack.acked_cmd == PARAM_VALUE {
-            let mut replies = self.replies;
-            let refused = OptionNack {
-                some: true,
-                src: BusAddr::Dsp,
-                type_id: type_id,
-                nack: nack,
-            };
-            replies.refused = refused;
-            return DspState::done(replies);
-        }
-        self.idle()
-    }
-
-    fn wait_power_mode(self, type_id: u8, message: Message, now: u64) -> DspMoved
-        ensures { λ r. ⌜ r ≡ armAt entry8 DspStep.Done past self (sent «type_id» message [] [] [] now) ⌝ }
+    fn wait_power_mode(self, type_id: u8, message: Message) -> DspMoved
+        ensures { λ r. ⌜ r ≡ armAt entry8 DspStep.Done past self (sent «type_id» message [] [] [] 0) ⌝ }
     {
         match message {
-            Message::ConfigAck(ack) => self.power_mode_acked(ack),
-            Message::ConfigNack(nack) => self.power_mode_refused(type_id, nack),
-            _ => self.idle(),
+            Message::ConfigAck(ack) => {
+                if ack.acked_cmd == PARAM_VALUE {
+                    return waited(DspStep::Done, self.replies);
+                }
+            }
+            Message::ConfigNack(nack) => {
+                if nack.acked_cmd == PARAM_VALUE {
+                    let mut replies = self.replies;
+                    let refused = OptionNack {
+                        some: true,
+                        src: BusAddr::Dsp,
+                        type_id: type_id,
+                        nack: nack,
+                    };
+                    replies.refused = refused;
+                    return waited(DspStep::Done, replies);
+                }
+            }
+            _ => {}
         }
+        self.idle()
     }
 
     // ---- an accepted envelope from the DSP, an accepted check
@@ -424,34 +393,13 @@ impl DspState {
         let awaited = self.step;
         match awaited {
             DspStep::WaitStatus => self.wait_status(message, payload, now),
-            DspStep::WaitDspQuery => self.wait_dsp_query(message, now),
-            DspStep::WaitDevInfo => self.wait_dev_info(message, text, payload, now),
-            DspStep::WaitProdInfo0 => {
-                self.wait_prod_info(
-                    0,
-                    DspStep::WaitProdInfo1,
-                    prod_info_req(0x08),
-                    message,
-                    text,
-                    now,
-                )
-            }
-            DspStep::WaitProdInfo1 => {
-                self.wait_prod_info(
-                    1,
-                    DspStep::WaitProdInfo2,
-                    prod_info_req(0x09),
-                    message,
-                    text,
-                    now,
-                )
-            }
-            DspStep::WaitProdInfo2 => {
-                let action = Action::send(Command::ConfigQuery, BusAddr::Dsp);
-                self.wait_prod_info(2, DspStep::WaitConfig, action, message, text, now)
-            }
+            DspStep::WaitDspQuery => self.wait_dsp_query(message),
+            DspStep::WaitDevInfo => self.wait_dev_info(message, text, payload),
+            DspStep::WaitProdInfo0 => self.wait_prod_info(0, DspStep::WaitProdInfo1, message, text),
+            DspStep::WaitProdInfo1 => self.wait_prod_info(1, DspStep::WaitProdInfo2, message, text),
+            DspStep::WaitProdInfo2 => self.wait_prod_info(2, DspStep::WaitConfig, message, text),
             DspStep::WaitConfig => self.wait_config(message, params, now),
-            DspStep::WaitPowerMode => self.wait_power_mode(type_id, message, now),
+            DspStep::WaitPowerMode => self.wait_power_mode(type_id, message),
             DspStep::Done => self.idle(),
         }
     }
@@ -468,13 +416,13 @@ impl DspState {
         }
         let step = self.step;
         match step {
-            DspStep::WaitDspQuery => DspState::to_dev_info(self.replies),
+            DspStep::WaitDspQuery => return waited(DspStep::WaitDevInfo, self.replies),
             DspStep::WaitPowerMode => {
                 let mut replies = self.replies;
                 replies.power_mode_unanswered = true;
-                DspState::done(replies)
+                return waited(DspStep::Done, replies);
             }
-            _ => self.idle(),
+            _ => return self.idle(),
         }
     }
 }

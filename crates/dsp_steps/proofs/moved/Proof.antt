@@ -1,11 +1,14 @@
--- `moved` meets its contract. It would be proved with no file; with one, a wrong step is the first error that a check shows.
+-- `moved` meets its contract.
 -- Assumes nothing.
 use borrow.Author.Needs.{needs}
 use Rattle.dsp_steps.proofs.moved.Statement.{statement}
 use Rattle.dsp_steps.proofs.moved.Tie as tie
 
+request-requires : tie.Need-request-requires
+request-requires c κs = search needs
+
 returns : tie.Need-returns
-returns c = search needs
+returns c = rw (c .request .ensures)
 
 pub moved-spec : {M : Type 1} → statement M
-moved-spec = tie.close (tie.spec returns)
+moved-spec = tie.close (tie.spec request-requires returns)

@@ -10,16 +10,11 @@ empty-requires c κs = search needs
 no-status-requires : tie.Need-no-status-requires
 no-status-requires c κs = search needs
 
-no-hw-info-requires : tie.Need-no-hw-info-requires
-no-hw-info-requires c κs = search needs
-
 none-requires : tie.Need-none-requires
 none-requires c κs = search needs
 
 returns : tie.Need-returns
-returns c = rw (c .none .ensures, c .before .no-hw-info .ensures, c .before .before .no-status .ensures, c .before .before .before .empty .ensures)
+returns c = rw (c .none .ensures, c .before .no-status .ensures, c .before .before .empty .ensures)
 
 pub none-spec : {M : Type 1} → statement M
-none-spec =
-    tie.close
-    (tie.spec empty-requires no-status-requires no-hw-info-requires none-requires returns)
+none-spec = tie.close (tie.spec empty-requires no-status-requires none-requires returns)

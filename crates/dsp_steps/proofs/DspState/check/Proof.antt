@@ -33,31 +33,31 @@ returns-2 c = let s = c .before .before .before .before .before .before .args .s
 enum-told : tie.Need-enum-told
 enum-told c = search needs
 
-to-dev-info-requires : tie.Need-to-dev-info-requires
-to-dev-info-requires c κs = search needs
-
-enum-told-2 : tie.Need-enum-told-2
-enum-told-2 c = search needs
-
-done-requires : tie.Need-done-requires
-done-requires c κs = search needs
-
-idle-requires-3 : tie.Need-idle-requires-3
-idle-requires-3 c κs = search needs
+waited-requires : tie.Need-waited-requires
+waited-requires c κs = search needs
 
 returns-3 : tie.Need-returns-3
 returns-3 c = let s = c .before .before .before .before .before .before .before .before .args .self in
     let t = c .before .before .before .before .before .before .before .before .args .now in
     let m = modelIn (s .replies .«dev_info») in
-    c .to-dev-info .ensures ∙ ticks entry2 DspStep.WaitDevInfo entry3 s (checked t) (reached (s .deadline) t (c .before .before .before .before .before .if1 .left) (c .before .before .before .if2 .left))
+    c .waited .ensures ∙ ticks entry2 DspStep.WaitDevInfo entry3 s (checked t) (reached (s .deadline) t (c .before .before .before .before .before .if1 .left) (c .before .before .before .if2 .left))
     ∙ at-step m s (checked t) DspStep.WaitDspQuery (c .before .enum-told .given .1)
+
+enum-told-2 : tie.Need-enum-told-2
+enum-told-2 c = search needs
+
+waited-requires-2 : tie.Need-waited-requires-2
+waited-requires-2 c κs = search needs
 
 returns-4 : tie.Need-returns-4
 returns-4 c = let s = c .before .before .before .before .before .before .before .before .before .args .self in
     let t = c .before .before .before .before .before .before .before .before .before .args .now in
     let m = modelIn (s .replies .«dev_info») in
-    c .done .ensures ∙ ticks entry8 DspStep.Done past s (checked t) (reached (s .deadline) t (c .before .before .before .before .before .before .if1 .left) (c .before .before .before .before .if2 .left))
+    c .waited2 .ensures ∙ ticks entry8 DspStep.Done past s (checked t) (reached (s .deadline) t (c .before .before .before .before .before .before .if1 .left) (c .before .before .before .before .if2 .left))
     ∙ at-step m s (checked t) DspStep.WaitPowerMode (c .before .before .enum-told2 .given .1)
+
+idle-requires-3 : tie.Need-idle-requires-3
+idle-requires-3 c κs = search needs
 
 returns-5 : tie.Need-returns-5
 returns-5 c = let s = c .before .before .before .before .before .before .before .args .self in
@@ -74,10 +74,10 @@ check-spec =
     idle-requires-2
     returns-2
     enum-told
-    to-dev-info-requires
-    enum-told-2
-    done-requires
-    idle-requires-3
+    waited-requires
     returns-3
+    enum-told-2
+    waited-requires-2
     returns-4
+    idle-requires-3
     returns-5)

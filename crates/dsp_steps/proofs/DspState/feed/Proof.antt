@@ -1,13 +1,10 @@
 -- `feed` meets its contract.
 -- Assumes nothing.
-use mathlib.Core.Path.{_∙_, ap}
+use mathlib.Core.Path.{_∙_}
 use denote.Ref.{now}
-use Rattle.protocol.specs.declared.Action.{Action}
-use Rattle.sequence.specs.Rows.{past}
 use Rattle.device.specs.Model.{modelIn}
 use Rattle.dsp_steps.specs.declared.DspStep.{DspStep}
-use Rattle.dsp_steps.specs.Table.{prodInfo}
-use Rattle.dsp_steps.specs.Answers.{sent, armAt}
+use Rattle.dsp_steps.specs.Answers.{sent}
 use Rattle.dsp_steps.proofs.Rows.{at-step}
 use borrow.Author.Needs.{needs}
 use Rattle.dsp_steps.proofs.DspState.feed.Statement.{statement}
@@ -34,26 +31,17 @@ wait-dev-info-requires c κs = search needs
 enum-told-4 : tie.Need-enum-told-4
 enum-told-4 c = search needs
 
-prod-info-req-requires : tie.Need-prod-info-req-requires
-prod-info-req-requires c κs = search needs
-
 wait-prod-info-requires : tie.Need-wait-prod-info-requires
 wait-prod-info-requires c κs = search needs
 
 enum-told-5 : tie.Need-enum-told-5
 enum-told-5 c = search needs
 
-prod-info-req-requires-2 : tie.Need-prod-info-req-requires-2
-prod-info-req-requires-2 c κs = search needs
-
 wait-prod-info-requires-2 : tie.Need-wait-prod-info-requires-2
 wait-prod-info-requires-2 c κs = search needs
 
 enum-told-6 : tie.Need-enum-told-6
 enum-told-6 c = search needs
-
-send-requires : tie.Need-send-requires
-send-requires c κs = search needs
 
 wait-prod-info-requires-3 : tie.Need-wait-prod-info-requires-3
 wait-prod-info-requires-3 c κs = search needs
@@ -89,22 +77,16 @@ returns-3 c = let a = c .before .before .before .before .before .args in
     c .wait-dev-info .ensures ∙ at-step (modelIn (a .self .replies .«dev_info»)) (a .self) (sent (a .type-id) (a .message) (a .params) (now (a .text)) (now (a .payload)) (a .now)) DspStep.WaitDevInfo (c .before .enum-told3 .given .1)
 
 returns-4 : tie.Need-returns-4
-returns-4 c = let a = c .before .before .before .before .before .before .args in
-    let e = (sent (a .type-id) (a .message) (a .params) (now (a .text)) (now (a .payload)) (a .now)) in
-    c .wait-prod-info .ensures ∙ ap (λ (x : Action). armAt (prodInfo 0 x) DspStep.WaitProdInfo1 past (a .self) e) (c .before .prod-info-req .ensures)
-    ∙ at-step (modelIn (a .self .replies .«dev_info»)) (a .self) e DspStep.WaitProdInfo0 (c .before .before .enum-told4 .given .1)
+returns-4 c = let a = c .before .before .before .before .before .args in
+    c .wait-prod-info .ensures ∙ at-step (modelIn (a .self .replies .«dev_info»)) (a .self) (sent (a .type-id) (a .message) (a .params) (now (a .text)) (now (a .payload)) (a .now)) DspStep.WaitProdInfo0 (c .before .enum-told4 .given .1)
 
 returns-5 : tie.Need-returns-5
-returns-5 c = let a = c .before .before .before .before .before .before .args in
-    let e = (sent (a .type-id) (a .message) (a .params) (now (a .text)) (now (a .payload)) (a .now)) in
-    c .wait-prod-info2 .ensures ∙ ap (λ (x : Action). armAt (prodInfo 1 x) DspStep.WaitProdInfo2 past (a .self) e) (c .before .prod-info-req2 .ensures)
-    ∙ at-step (modelIn (a .self .replies .«dev_info»)) (a .self) e DspStep.WaitProdInfo1 (c .before .before .enum-told5 .given .1)
+returns-5 c = let a = c .before .before .before .before .before .args in
+    c .wait-prod-info2 .ensures ∙ at-step (modelIn (a .self .replies .«dev_info»)) (a .self) (sent (a .type-id) (a .message) (a .params) (now (a .text)) (now (a .payload)) (a .now)) DspStep.WaitProdInfo1 (c .before .enum-told5 .given .1)
 
 returns-6 : tie.Need-returns-6
-returns-6 c = let a = c .before .before .before .before .before .before .args in
-    let e = (sent (a .type-id) (a .message) (a .params) (now (a .text)) (now (a .payload)) (a .now)) in
-    c .wait-prod-info3 .ensures ∙ ap (λ (x : Action). armAt (prodInfo 2 x) DspStep.WaitConfig past (a .self) e) (c .before .send .ensures)
-    ∙ at-step (modelIn (a .self .replies .«dev_info»)) (a .self) e DspStep.WaitProdInfo2 (c .before .before .enum-told6 .given .1)
+returns-6 c = let a = c .before .before .before .before .before .args in
+    c .wait-prod-info3 .ensures ∙ at-step (modelIn (a .self .replies .«dev_info»)) (a .self) (sent (a .type-id) (a .message) (a .params) (now (a .text)) (now (a .payload)) (a .now)) DspStep.WaitProdInfo2 (c .before .enum-told6 .given .1)
 
 returns-7 : tie.Need-returns-7
 returns-7 c = let a = c .before .before .before .before .before .args in
@@ -129,13 +111,10 @@ feed-spec =
     enum-told-3
     wait-dev-info-requires
     enum-told-4
-    prod-info-req-requires
     wait-prod-info-requires
     enum-told-5
-    prod-info-req-requires-2
     wait-prod-info-requires-2
     enum-told-6
-    send-requires
     wait-prod-info-requires-3
     enum-told-7
     wait-config-requires

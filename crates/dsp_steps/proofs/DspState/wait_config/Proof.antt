@@ -30,25 +30,19 @@ has-power-mode-requires c κs = search needs
 after-requires : tie.Need-after-requires
 after-requires c κs = search needs
 
-power-mode-requires : tie.Need-power-mode-requires
-power-mode-requires c κs = search needs
-
 moved-requires : tie.Need-moved-requires
 moved-requires c κs = search needs
 
 returns : tie.Need-returns
-returns c = let on = power-mode-of (c .before .before .before .before .before .from-stored .ensures) (c .before .before .before .before .has-power-mode .ensures) (c .before .before .before .if1 .taken) in
-    c .moved .ensures ∙ rw (c .before .before .before .before .before .before .before .enum-told .given .1, on, c .before .power-mode .ensures, c .before .before .after .ensures)
-
-none-requires : tie.Need-none-requires
-none-requires c κs = search needs
+returns c = let on = power-mode-of (c .before .before .before .before .from-stored .ensures) (c .before .before .before .has-power-mode .ensures) (c .before .before .if1 .taken) in
+    c .moved .ensures ∙ rw (c .before .before .before .before .before .before .enum-told .given .1, on, c .before .after .ensures)
 
 moved-requires-2 : tie.Need-moved-requires-2
 moved-requires-2 c κs = search needs
 
 returns-2 : tie.Need-returns-2
-returns-2 c = let off = power-mode-of (c .before .before .before .before .from-stored .ensures) (c .before .before .before .has-power-mode .ensures) (c .before .before .if1 .left) in
-    c .moved2 .ensures ∙ rw (c .before .before .before .before .before .before .enum-told .given .1, off, c .before .none .ensures)
+returns-2 c = let off = power-mode-of (c .before .before .before .from-stored .ensures) (c .before .before .has-power-mode .ensures) (c .before .if1 .left) in
+    c .moved2 .ensures ∙ rw (c .before .before .before .before .before .enum-told .given .1, off)
 
 idle-requires : tie.Need-idle-requires
 idle-requires c κs = search needs
@@ -66,10 +60,8 @@ wait-config-spec =
     from-stored-requires
     has-power-mode-requires
     after-requires
-    power-mode-requires
     moved-requires
     returns
-    none-requires
     moved-requires-2
     returns-2
     idle-requires

@@ -21,21 +21,18 @@ from-slice-requires c κs = search needs
 from-slice-requires-2 : tie.Need-from-slice-requires-2
 from-slice-requires-2 c κs = search needs
 
-prod-info-req-requires : tie.Need-prod-info-req-requires
-prod-info-req-requires c κs = search needs
-
 moved-requires : tie.Need-moved-requires
 moved-requires c κs = search needs
 
 returns : tie.Need-returns
-returns c = c .moved .ensures ∙ rw (c .before .before .before .before .before .enum-told .given .1, c .before .prod-info-req .ensures, c .before .before .from-slice2 .ensures, c .before .before .before .from-slice .ensures)
+returns c = c .moved .ensures ∙ rw (c .before .before .before .before .enum-told .given .1, c .before .from-slice2 .ensures, c .before .before .from-slice .ensures)
 
 idle-requires : tie.Need-idle-requires
 idle-requires c κs = search needs
 
 returns-2 : tie.Need-returns-2
 returns-2 c = let a = c .before .before .before .before .args in
-    c .idle .ensures ∙ idles entry3 DspStep.WaitProdInfo0 entry4 (a .self) (sent 0 (a .message) [] (now (a .text)) (now (a .payload)) (a .now)) (other 13 (a .message) tt (c .before .match .keys2))
+    c .idle .ensures ∙ idles entry3 DspStep.WaitProdInfo0 entry4 (a .self) (sent 0 (a .message) [] (now (a .text)) (now (a .payload)) 0) (other 13 (a .message) tt (c .before .match .keys2))
 
 pub wait-dev-info-spec : {M : Type 1} → statement M
 wait-dev-info-spec =
@@ -44,7 +41,6 @@ wait-dev-info-spec =
     enum-told
     from-slice-requires
     from-slice-requires-2
-    prod-info-req-requires
     moved-requires
     returns
     idle-requires

@@ -2,6 +2,7 @@
 -- Assumes nothing.
 use mathlib.Core.Path.{_∙_}
 use mathlib.Core.List.{[]}
+use mathlib.Core.Logic.{⊎-elim}
 use borrow.Author.Tests.{eq-eqb, ne-eqb}
 use Rattle.protocol.proofs.Arms.{but, kinds, none-of}
 use Rattle.dsp_steps.specs.declared.DspStep.{DspStep}
@@ -15,48 +16,42 @@ use Rattle.dsp_steps.proofs.DspState.wait_dsp_query.Tie as tie
 enum-known-message : tie.Need-enum-known-message
 enum-known-message c = search needs
 
-to-dev-info-requires : tie.Need-to-dev-info-requires
-to-dev-info-requires c κs = search needs
+waited-requires : tie.Need-waited-requires
+waited-requires c κs = search needs
 
 returns : tie.Need-returns
-returns c = c .to-dev-info .ensures ∙ rw (c .before .before .before .before .message .given .1, eq-eqb _ _ (c .before .if1 .taken))
-
-idle-requires : tie.Need-idle-requires
-idle-requires c κs = search needs
-
-returns-2 : tie.Need-returns-2
-returns-2 c = let a = c .before .before .before .before .before .before .args in
-    c .idle .ensures ∙ idles entry2 DspStep.WaitDevInfo entry3 (a .self) (sent 0 (a .message) [] [] [] (a .now)) (rw (c .before .before .before .before .message .given .1, ne-eqb _ _ (c .before .if1 .left)))
+returns c = c .waited .ensures ∙ rw (c .before .before .before .before .message .given .1, eq-eqb _ _ (c .before .if1 .taken))
 
 enum-known-message-2 : tie.Need-enum-known-message-2
 enum-known-message-2 c = search needs
 
-to-dev-info-requires-2 : tie.Need-to-dev-info-requires-2
-to-dev-info-requires-2 c κs = search needs
+waited-requires-2 : tie.Need-waited-requires-2
+waited-requires-2 c κs = search needs
+
+returns-2 : tie.Need-returns-2
+returns-2 c = c .waited2 .ensures ∙ rw (c .before .before .before .message2 .given .1)
+
+idle-requires : tie.Need-idle-requires
+idle-requires c κs = search needs
 
 returns-3 : tie.Need-returns-3
-returns-3 c = c .to-dev-info2 .ensures ∙ rw (c .before .before .before .message2 .given .1)
-
-idle-requires-2 : tie.Need-idle-requires-2
-idle-requires-2 c κs = search needs
-
-returns-4 : tie.Need-returns-4
-returns-4 c = let a = c .before .before .args in
+returns-3 c = let a = c .before .before .args in
     let ks = but 4 (but 12 kinds) in
-    c .idle2 .ensures ∙ idles entry2 DspStep.WaitDevInfo entry3 (a .self) (sent 0 (a .message) [] [] [] (a .now))
-    (rw (none-of ks 12 (a .message) tt (c .before .match .keys3), none-of ks 4 (a .message) tt (c .before .match .keys3)))
+    c .idle .ensures ∙ idles entry2 DspStep.WaitDevInfo entry3 (a .self) (sent 0 (a .message) [] [] [] 0)
+    (⊎-elim
+    (λ w. rw (w .1 .given .1, ne-eqb _ _ (w .4 .left)))
+    (λ w. rw (none-of ks 12 (a .message) tt (w .keys3), none-of ks 4 (a .message) tt (w .keys3)))
+    (c .before .match .came))
 
 pub wait-dsp-query-spec : {M : Type 1} → statement M
 wait-dsp-query-spec =
     tie.close
     (tie.spec
     enum-known-message
-    to-dev-info-requires
+    waited-requires
     returns
-    idle-requires
-    returns-2
     enum-known-message-2
-    to-dev-info-requires-2
-    returns-3
-    idle-requires-2
-    returns-4)
+    waited-requires-2
+    returns-2
+    idle-requires
+    returns-3)

@@ -21,14 +21,11 @@ status-reply-requires c κs = search needs
 after-requires : tie.Need-after-requires
 after-requires c κs = search needs
 
-send-requires : tie.Need-send-requires
-send-requires c κs = search needs
-
 moved-requires : tie.Need-moved-requires
 moved-requires c κs = search needs
 
 returns : tie.Need-returns
-returns c = c .moved .ensures ∙ rw (c .before .before .before .before .before .before .message .given .1, c .before .send .ensures, c .before .before .after .ensures, c .before .before .before .status-reply .ensures)
+returns c = c .moved .ensures ∙ rw (c .before .before .before .before .before .message .given .1, c .before .after .ensures, c .before .before .status-reply .ensures)
 
 idle-requires : tie.Need-idle-requires
 idle-requires c κs = search needs
@@ -44,7 +41,6 @@ wait-status-spec =
     enum-known-message
     status-reply-requires
     after-requires
-    send-requires
     moved-requires
     returns
     idle-requires
