@@ -408,10 +408,7 @@ impl DspState {
         ensures { λ r. ⌜ r ≡ answered self (checked now) ⌝ }
     {
         let deadline = self.deadline;
-        if !deadline.some {
-            return self.idle();
-        }
-        if now < deadline.value {
+        if !deadline.reached(now) {
             return self.idle();
         }
         let step = self.step;

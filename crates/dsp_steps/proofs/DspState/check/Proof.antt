@@ -1,9 +1,10 @@
 -- `check` meets its contract.
 -- Assumes nothing.
-use mathlib.Core.Path.{_∙_}
+use mathlib.Core.Path.{_≡_, sym, _∙_}
+use mathlib.Core.Bool.{true, false}
 use Rattle.sequence.specs.Events.{checked}
-use Rattle.sequence.specs.Rows.{past}
-use Rattle.sequence.proofs.Arms.{unset, early, reached, waitless}
+use Rattle.sequence.specs.Rows.{past, reached}
+use Rattle.sequence.proofs.Arms.{not-true, not-false, unreached, waitless}
 use Rattle.device.specs.Model.{modelIn}
 use Rattle.dsp_steps.specs.declared.DspStep.{DspStep}
 use Rattle.dsp_steps.specs.Table.{entry2, entry3, entry8, row, next}
@@ -12,6 +13,9 @@ use borrow.Author.Needs.{needs}
 use Rattle.dsp_steps.proofs.DspState.check.Statement.{statement}
 use Rattle.dsp_steps.proofs.DspState.check.Tie as tie
 
+reached-requires : tie.Need-reached-requires
+reached-requires c κs = search needs
+
 idle-requires : tie.Need-idle-requires
 idle-requires c κs = search needs
 
@@ -19,16 +23,8 @@ returns : tie.Need-returns
 returns c = let s = c .before .before .before .before .args .self in
     let t = c .before .before .before .before .args .now in
     let m = modelIn (s .replies .«dev_info») in
-    c .idle .ensures ∙ idles (row m (s .step)) (next m (s .step)) (row m (next m (s .step))) s (checked t) (unset (row m (s .step) .wait) (s .deadline) t (c .before .if1 .taken))
-
-idle-requires-2 : tie.Need-idle-requires-2
-idle-requires-2 c κs = search needs
-
-returns-2 : tie.Need-returns-2
-returns-2 c = let s = c .before .before .before .before .before .before .args .self in
-    let t = c .before .before .before .before .before .before .args .now in
-    let m = modelIn (s .replies .«dev_info») in
-    c .idle2 .ensures ∙ idles (row m (s .step)) (next m (s .step)) (row m (next m (s .step))) s (checked t) (early (row m (s .step) .wait) (s .deadline) t (c .before .if2 .taken))
+    let off : reached (s .deadline) t ≡ false = sym (c .before .before .reached .ensures) ∙ not-true _ (c .before .if1 .taken) in
+    c .idle .ensures ∙ idles (row m (s .step)) (next m (s .step)) (row m (next m (s .step))) s (checked t) (unreached (row m (s .step) .wait) (s .deadline) t off)
 
 enum-told : tie.Need-enum-told
 enum-told c = search needs
@@ -36,11 +32,12 @@ enum-told c = search needs
 waited-requires : tie.Need-waited-requires
 waited-requires c κs = search needs
 
-returns-3 : tie.Need-returns-3
-returns-3 c = let s = c .before .before .before .before .before .before .before .before .args .self in
-    let t = c .before .before .before .before .before .before .before .before .args .now in
+returns-2 : tie.Need-returns-2
+returns-2 c = let s = c .before .before .before .before .before .before .args .self in
+    let t = c .before .before .before .before .before .before .args .now in
     let m = modelIn (s .replies .«dev_info») in
-    c .waited .ensures ∙ ticks entry2 DspStep.WaitDevInfo entry3 s (checked t) (reached (s .deadline) t (c .before .before .before .before .before .if1 .left) (c .before .before .before .if2 .left))
+    let on : reached (s .deadline) t ≡ true = sym (c .before .before .before .before .reached .ensures) ∙ not-false _ (c .before .before .before .if1 .left) in
+    c .waited .ensures ∙ ticks entry2 DspStep.WaitDevInfo entry3 s (checked t) on
     ∙ at-step m s (checked t) DspStep.WaitDspQuery (c .before .enum-told .given .1)
 
 enum-told-2 : tie.Need-enum-told-2
@@ -49,35 +46,35 @@ enum-told-2 c = search needs
 waited-requires-2 : tie.Need-waited-requires-2
 waited-requires-2 c κs = search needs
 
-returns-4 : tie.Need-returns-4
-returns-4 c = let s = c .before .before .before .before .before .before .before .before .before .args .self in
-    let t = c .before .before .before .before .before .before .before .before .before .args .now in
-    let m = modelIn (s .replies .«dev_info») in
-    c .waited2 .ensures ∙ ticks entry8 DspStep.Done past s (checked t) (reached (s .deadline) t (c .before .before .before .before .before .before .if1 .left) (c .before .before .before .before .if2 .left))
-    ∙ at-step m s (checked t) DspStep.WaitPowerMode (c .before .before .enum-told2 .given .1)
-
-idle-requires-3 : tie.Need-idle-requires-3
-idle-requires-3 c κs = search needs
-
-returns-5 : tie.Need-returns-5
-returns-5 c = let s = c .before .before .before .before .before .before .before .args .self in
+returns-3 : tie.Need-returns-3
+returns-3 c = let s = c .before .before .before .before .before .before .before .args .self in
     let t = c .before .before .before .before .before .before .before .args .now in
     let m = modelIn (s .replies .«dev_info») in
-    c .idle3 .ensures ∙ idles (row m (s .step)) (next m (s .step)) (row m (next m (s .step))) s (checked t) (waitless (row m (s .step) .wait) (s .deadline) t (no-wait m (s .step) (c .before .match .keys3)))
+    let on : reached (s .deadline) t ≡ true = sym (c .before .before .before .before .before .reached .ensures) ∙ not-false _ (c .before .before .before .before .if1 .left) in
+    c .waited2 .ensures ∙ ticks entry8 DspStep.Done past s (checked t) on
+    ∙ at-step m s (checked t) DspStep.WaitPowerMode (c .before .before .enum-told2 .given .1)
+
+idle-requires-2 : tie.Need-idle-requires-2
+idle-requires-2 c κs = search needs
+
+returns-4 : tie.Need-returns-4
+returns-4 c = let s = c .before .before .before .before .before .args .self in
+    let t = c .before .before .before .before .before .args .now in
+    let m = modelIn (s .replies .«dev_info») in
+    c .idle2 .ensures ∙ idles (row m (s .step)) (next m (s .step)) (row m (next m (s .step))) s (checked t) (waitless (row m (s .step) .wait) (s .deadline) t (no-wait m (s .step) (c .before .match .keys3)))
 
 pub check-spec : {M : Type 1} → statement M
 check-spec =
     tie.close
     (tie.spec
+    reached-requires
     idle-requires
     returns
-    idle-requires-2
-    returns-2
     enum-told
     waited-requires
-    returns-3
+    returns-2
     enum-told-2
     waited-requires-2
-    returns-4
-    idle-requires-3
-    returns-5)
+    returns-3
+    idle-requires-2
+    returns-4)

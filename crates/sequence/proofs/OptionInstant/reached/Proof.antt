@@ -1,13 +1,11 @@
 -- `OptionInstant::reached` meets its contract.
 -- Assumes nothing.
-use mathlib.Core.Path.{sym}
-use Rattle.sequence.specs.Events.{nanos}
 use Rattle.sequence.proofs.Arms.{unset, set}
 use Rattle.sequence.proofs.OptionInstant.reached.Statement.{statement}
 use Rattle.sequence.proofs.OptionInstant.reached.Tie as tie
 
 returns : tie.Need-returns
-returns c = sym (unset (nanos 0) (c .before .before .args .self) (c .before .before .args .now) (c .if1 .taken))
+returns c = unset (c .before .before .args .self) (c .before .before .args .now) (c .if1 .taken)
 
 returns-2 : tie.Need-returns-2
 returns-2 c = set (c .before .before .before .args .self) (c .before .before .before .args .now) (c .before .if1 .left)
