@@ -1,13 +1,11 @@
-// The calls of an arm or a disarm, and what they answer. Either stores a few bytes at most, so one loop runs both.
-mod arming;
-mod disarming;
-
+// The calls of an arm, and what they answer.
+use arm::ArmFed;
 use arm::ArmSequencer;
-use disarm::DisarmSequencer;
+use arm::ArmStep;
+use device::model::DeviceModel;
 use reading::call::Call;
 use reading::call::Calls;
 use reading::call::Feed;
-use reading::call::Sequence;
 use scanning::bytes::BYTES;
 use streams::INPUT;
 use streams::LONGER;
@@ -17,45 +15,70 @@ use streams::next::next;
 use words::kinds::Kinds;
 use words::kinds::VALUES;
 use words::part;
+use writing::fields;
+use writing::send;
 use writing::write;
 use writing::write::OUT;
 
-enum Running {
-    Arm(ArmSequencer),
-    Disarm(DisarmSequencer),
-}
+const CALLS: Calls = Calls {
+    feed: true,
+    check: false,
+    result: false,
+    take: false,
+    retries: true,
+};
 
-// What runs after a call, and the end of the answer.
+// The arm after a call, and the end of the answer.
 struct Answered {
-    running: Running,
+    arm: ArmSequencer,
     at: usize,
 }
 
-// Only an arm has `retries`.
-fn calls(sequence: Sequence) -> Calls {
-    let retries = if let Sequence::Arm(_) = sequence {
-        true
-    } else {
-        false
-    };
-    Calls {
-        feed: true,
-        check: false,
-        result: false,
-        take: false,
-        retries: retries,
+fn gathered(out: &mut [u8; OUT], at: usize, got_pi: bool, got_armed: bool) -> usize {
+    let end = fields::flagged(out, at, b"got_pi", got_pi);
+    fields::flagged(out, end, b"got_armed", got_armed)
+}
+
+fn name(out: &mut [u8; OUT], at: usize, step: ArmStep) -> usize {
+    match step {
+        ArmStep::WaitDspStatus => write::text(out, at, b"WaitDspStatus"),
+        ArmStep::WaitAvrStatus => write::text(out, at, b"WaitAvrStatus"),
+        ArmStep::WaitArmAck => write::text(out, at, b"WaitArmAck"),
+        ArmStep::WaitPiAndArmed { got_pi, got_armed } => {
+            let end = write::text(out, at, b"WaitPiAndArmed");
+            gathered(out, end, got_pi, got_armed)
+        }
+        ArmStep::Done => write::text(out, at, b"Done"),
     }
 }
 
-fn begin(sequence: Sequence, out: &mut [u8; OUT], at: usize) -> Answered {
-    match sequence {
-        Sequence::Arm(model) => arming::begin(model, out, at),
-        _ => disarming::begin(out, at),
+fn begin(model: DeviceModel, out: &mut [u8; OUT], at: usize) -> Answered {
+    let started = ArmSequencer::new_for(model);
+    let action = started.action;
+    let arm = started.seq;
+    let step = arm.step;
+    let end = send::sent(out, at, action);
+    Answered {
+        arm: arm,
+        at: name(out, end, step),
+    }
+}
+
+// An arm goes back, so it has no entries to tick.
+fn fed(out: &mut [u8; OUT], at: usize, fed: ArmFed) -> Answered {
+    let outcome = fed.outcome;
+    let action = fed.action;
+    let arm = fed.seq;
+    let step = arm.step;
+    let end = send::fed(out, at, outcome, 0, action);
+    Answered {
+        arm: arm,
+        at: name(out, end, step),
     }
 }
 
 fn feed(
-    running: Running,
+    arm: ArmSequencer,
     feed: Feed,
     values: &[u64; VALUES],
     bytes: &[u8; BYTES],
@@ -66,23 +89,7 @@ fn feed(
     let message = messages::message(feed.kind, values);
     let text = part(bytes, 0, feed.text);
     let payload = part(bytes, feed.text, feed.payload);
-    match running {
-        Running::Arm(arm) => {
-            arming::fed(out, at, arm.feed(src, feed.type_id, message, text, payload))
-        }
-        Running::Disarm(disarm) => {
-            let before = disarm.step;
-            let after = disarm.feed(src, feed.type_id, message, text, payload);
-            disarming::fed(out, at, before, after)
-        }
-    }
-}
-
-fn retries(running: Running, out: &mut [u8; OUT], at: usize) -> usize {
-    match running {
-        Running::Arm(arm) => write::decimal(out, at, arm.retries() as u64),
-        Running::Disarm(_) => at,
-    }
+    fed(out, at, arm.feed(src, feed.type_id, message, text, payload))
 }
 
 // A call after the beginning: `retries`, where it is no `feed`.
@@ -93,41 +100,39 @@ fn call(
     bytes: &[u8; BYTES],
     out: &mut [u8; OUT],
 ) -> Answered {
-    let running = done.running;
+    let arm = done.arm;
     let at = turn.stream.out;
     let asked = turn.call;
     match asked {
-        Call::Feed(envelope) => feed(running, envelope, values, bytes, out, at),
+        Call::Feed(envelope) => feed(arm, envelope, values, bytes, out, at),
         _ => Answered {
-            running: running,
-            at: retries(running, out, at),
+            arm: arm,
+            at: write::decimal(out, at, arm.retries() as u64),
         },
     }
 }
 
 // Every stored field.
-fn state(running: Running, out: &mut [u8; OUT], at: usize) -> usize {
-    let end = write::text(out, at, b"; state");
-    match running {
-        Running::Arm(arm) => arming::state(out, end, arm),
-        Running::Disarm(_) => end,
-    }
+fn state(out: &mut [u8; OUT], at: usize, arm: ArmSequencer) -> usize {
+    let mut end = write::text(out, at, b"; state");
+    end = fields::number(out, end, b"retries", arm.retries as u64);
+    fields::flagged(out, end, b"wait_pi", arm.wait_pi)
 }
 
 // Ends an answer, with every stored field if they are asked for.
 fn end(done: Answered, stream: Stream, out: &mut [u8; OUT]) -> Stream {
     if stream.with_state {
-        let running = done.running;
-        let end = state(running, out, done.at);
+        let arm = done.arm;
+        let end = state(out, done.at, arm);
         return stream.answered(out, end);
     }
     stream.answered(out, done.at)
 }
 
-// From the beginning, whose number is written, to the beginning of the next sequence or the end of the list. The calls are counted
-// down, as reads are.
+// An arm from its beginning, whose number is written, to the beginning of the next sequence or the end of the list. The calls are
+// counted down, as reads are.
 pub fn run(
-    sequence: Sequence,
+    model: DeviceModel,
     stream: Stream,
     kinds: &Kinds,
     input: &mut [u8; INPUT],
@@ -136,13 +141,12 @@ pub fn run(
     bytes: &mut [u8; BYTES],
     out: &mut [u8; OUT],
 ) -> Turn {
-    let calls = calls(sequence);
-    let mut done = begin(sequence, out, stream.out);
+    let mut done = begin(model, out, stream.out);
     let mut turn = Turn::without_call(stream);
     let mut turns = u64::MAX;
     loop {
         let ended = end(done, turn.stream, out);
-        turn = next(ended, calls, kinds, input, line, values, bytes, out);
+        turn = next(ended, CALLS, kinds, input, line, values, bytes, out);
         if turn.leaves() {
             return turn;
         }

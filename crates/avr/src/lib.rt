@@ -138,8 +138,8 @@ fn new_state(model: DeviceModel) -> AvrState
 }
 
 // The result that these replies make.
-fn sync(replies: AvrReplies) -> AvrSync
-    ensures { λ r. ⌜ r ≡ syncOf replies ⌝ }
+fn result(outcome: Outcome, replies: AvrReplies) -> AvrFinished
+    ensures { λ r. ⌜ r ≡ record { outcome = outcome; sync = syncOf replies } ⌝ }
 {
     let status = replies.status;
     let value = status.value;
@@ -150,13 +150,16 @@ fn sync(replies: AvrReplies) -> AvrSync
     let factory_cal = replies.factory_cal;
     let if_cal = replies.if_cal;
     let avr_config = replies.avr_config;
-    AvrSync {
-        status: value,
-        dev_info: info,
-        config: numbers,
-        factory_cal: factory_cal,
-        if_cal: if_cal,
-        avr_config: avr_config,
+    AvrFinished {
+        outcome: outcome,
+        sync: AvrSync {
+            status: value,
+            dev_info: info,
+            config: numbers,
+            factory_cal: factory_cal,
+            if_cal: if_cal,
+            avr_config: avr_config,
+        },
     }
 }
 
@@ -256,9 +259,9 @@ impl AvrSequencer {
         match outcome {
             Outcome::Accepted => {
                 let state = self.state;
-                accepted(state.check(now), now)
+                return accepted(state.check(now), now);
             }
-            Outcome::Refused(refusal) => self.refuse(refusal),
+            Outcome::Refused(refusal) => return self.refuse(refusal),
         }
     }
 
@@ -269,20 +272,10 @@ impl AvrSequencer {
         let state = self.state;
         let step = state.step;
         match step {
-            AvrStep::Done => {
-                let sync = sync(state.replies);
-                AvrFinished {
-                    outcome: Outcome::Accepted,
-                    sync: sync,
-                }
-            }
+            AvrStep::Done => return result(Outcome::Accepted, state.replies),
             _ => {
                 let new = new_state(DeviceModel::Mevo);
-                let sync = sync(new.replies);
-                AvrFinished {
-                    outcome: Outcome::Refused(Refusal::NotDone),
-                    sync: sync,
-                }
+                return result(Outcome::Refused(Refusal::NotDone), new.replies);
             }
         }
     }

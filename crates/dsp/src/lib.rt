@@ -67,8 +67,8 @@ pub struct DspTaken {
 }
 
 // The result that these replies make.
-fn sync(replies: DspReplies) -> DspSync
-    ensures { λ r. ⌜ r ≡ syncOf replies ⌝ }
+fn result(outcome: Outcome, replies: DspReplies) -> DspFinished
+    ensures { λ r. ⌜ r ≡ record { outcome = outcome; sync = syncOf replies } ⌝ }
 {
     let status = replies.status;
     let value = status.value;
@@ -80,15 +80,18 @@ fn sync(replies: DspReplies) -> DspSync
     let config = replies.config;
     let numbers = config.value;
     let model = DeviceModel::from_stored(dev_info);
-    DspSync {
-        status: value,
-        status_payload: status_payload,
-        hw_info: hw_info,
-        dev_info: info,
-        prod_info: prod_info,
-        config: numbers,
-        model: model,
-        power_mode_unanswered: replies.power_mode_unanswered,
+    DspFinished {
+        outcome: outcome,
+        sync: DspSync {
+            status: value,
+            status_payload: status_payload,
+            hw_info: hw_info,
+            dev_info: info,
+            prod_info: prod_info,
+            config: numbers,
+            model: model,
+            power_mode_unanswered: replies.power_mode_unanswered,
+        },
     }
 }
 
@@ -180,9 +183,9 @@ impl DspSequencer {
         match outcome {
             Outcome::Accepted => {
                 let state = self.state;
-                accepted(state.check(now), now)
+                return accepted(state.check(now), now);
             }
-            Outcome::Refused(refusal) => self.refuse(refusal),
+            Outcome::Refused(refusal) => return self.refuse(refusal),
         }
     }
 
@@ -193,20 +196,10 @@ impl DspSequencer {
         let state = self.state;
         let step = state.step;
         match step {
-            DspStep::Done => {
-                let sync = sync(state.replies);
-                DspFinished {
-                    outcome: Outcome::Accepted,
-                    sync: sync,
-                }
-            }
+            DspStep::Done => return result(Outcome::Accepted, state.replies),
             _ => {
                 let new = DspState::new();
-                let sync = sync(new.replies);
-                DspFinished {
-                    outcome: Outcome::Refused(Refusal::NotDone),
-                    sync: sync,
-                }
+                return result(Outcome::Refused(Refusal::NotDone), new.replies);
             }
         }
     }

@@ -35,8 +35,10 @@ fn run(
         Sequence::AvrConfig(settings) => {
             avr_config_calls::run(settings, stream, kinds, input, line, values, bytes, out)
         }
-        // an arm or a disarm
-        _ => arm_calls::run(sequence, stream, kinds, input, line, values, bytes, out),
+        Sequence::Disarm => disarm_calls::run(stream, kinds, input, line, values, bytes, out),
+        Sequence::Arm(model) => {
+            arm_calls::run(model, stream, kinds, input, line, values, bytes, out)
+        }
     }
 }
 

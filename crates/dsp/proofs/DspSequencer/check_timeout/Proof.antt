@@ -24,18 +24,18 @@ check-requires c κs = search needs
 accepted-requires : tie.Need-accepted-requires
 accepted-requires c κs = search needs
 
-enum-known-outcome : tie.Need-enum-known-outcome
-enum-known-outcome c = search needs
-
-refuse-requires : tie.Need-refuse-requires
-refuse-requires c κs = search needs
-
 returns : tie.Need-returns
 returns c = let s = c .before .before .before .before .before .before .args .self in
     let t = c .before .before .before .before .before .before .args .now in
     let o = sym (c .before .before .before .before .before .accept-check .ensures) ∙ c .before .before .before .enum-told .given .1 in
     c .accepted .ensures ∙ ap (λ (w : DspMoved). accepted w t) (c .before .check .ensures)
     ∙ judged-accepted (checkOutcome (s .last) t) (accepted (steps.advance (modelIn (s .state .replies .«dev_info»)) (s .state) (checked t)) t) (refused s) o
+
+enum-known-outcome : tie.Need-enum-known-outcome
+enum-known-outcome c = search needs
+
+refuse-requires : tie.Need-refuse-requires
+refuse-requires c κs = search needs
 
 returns-2 : tie.Need-returns-2
 returns-2 c = let s = c .before .before .before .before .before .args .self in
@@ -51,7 +51,7 @@ check-timeout-spec =
     enum-told
     check-requires
     accepted-requires
+    returns
     enum-known-outcome
     refuse-requires
-    returns
     returns-2)

@@ -1,6 +1,6 @@
 -- `into_result` meets its contract.
 -- Assumes nothing.
-use mathlib.Core.Path.{_≡_, refl, ap}
+use mathlib.Core.Path.{_≡_, refl, ap, _∙_}
 use mathlib.Core.Bool.{false}
 use mathlib.Core.List.{List, [], _∷_}
 use Prim.Native.Nat.{ℕ}
@@ -29,21 +29,21 @@ not-done Done h = absurd (miss (0 ∷ 1 ∷ 2 ∷ 3 ∷ 4 ∷ 5 ∷ 6 ∷ 7 ∷ 
 enum-told : tie.Need-enum-told
 enum-told c = search needs
 
-sync-requires : tie.Need-sync-requires
-sync-requires c κs = search needs
+result-requires : tie.Need-result-requires
+result-requires c κs = search needs
+
+returns : tie.Need-returns
+returns c = c .result .ensures ∙ rw (ap isDone (c .before .enum-told .given .1))
 
 new-requires : tie.Need-new-requires
 new-requires c κs = search needs
 
-sync-requires-2 : tie.Need-sync-requires-2
-sync-requires-2 c κs = search needs
-
-returns : tie.Need-returns
-returns c = rw (ap isDone (c .before .enum-told .given .1), c .sync .ensures)
+result-requires-2 : tie.Need-result-requires-2
+result-requires-2 c κs = search needs
 
 returns-2 : tie.Need-returns-2
-returns-2 c = rw (c .sync2 .ensures, c .before .new .ensures, not-done (c .before .before .before .before .args .self .state .step) (c .before .before .match .keys2))
+returns-2 c = c .result2 .ensures ∙ rw (c .before .new .ensures, not-done (c .before .before .before .before .args .self .state .step) (c .before .before .match .keys2))
 
 pub into-result-spec : {M : Type 1} → statement M
 into-result-spec =
-    tie.close (tie.spec enum-told sync-requires new-requires sync-requires-2 returns returns-2)
+    tie.close (tie.spec enum-told result-requires returns new-requires result-requires-2 returns-2)
