@@ -6,10 +6,12 @@ use mathlib.Core.Bool.{true, false, cond}
 use mathlib.Core.List.{List, [], _∷_, map}
 use lib.Dec.{ltb}
 use lib.ListN.{getD}
+use Rattle.protocol.specs.declared.BusAddr.{BusAddr}
 use Rattle.protocol.specs.declared.Command.{Command}
 use Rattle.protocol.specs.declared.Action.{Action}
 use Rattle.protocol.specs.Action.{noAction}
 use Rattle.protocol.specs.Kinds as kinds
+use Rattle.device.specs.Sends.{poll}
 use Rattle.matching.specs.Matching.{Table}
 use Rattle.sequence.specs.Events.{Envelope, Event, forever}
 use Rattle.sequence.specs.Rows.{Row, test, past}
@@ -90,6 +92,18 @@ next WaitNetConfig = WaitNetConfigPw
 next WaitNetConfigPw = WaitParams 0
 next (WaitParams i) = cond (ltb i 8) (WaitParams (i + 1)) Done
 next Done = Done
+
+-- what is asked when a step begins: what the entry before it sends (the first step begins with `new`, which polls)
+abbrev pub request : PiStep → Action
+request WaitStatus = poll true BusAddr.Pi
+request WaitDevInfo = toPi Command.DevInfoReq
+request WaitParam0A = paramReadReq 0x0A
+request WaitCamConfig1 = toPi Command.CamConfigReq
+request WaitCamConfig2 = toPi Command.CamConfigReq
+request WaitNetConfig = netConfigReq false
+request WaitNetConfigPw = netConfigReq true
+request (WaitParams i) = cond (ltb i 9) (paramReadReq (getD ids i 0)) noAction
+request Done = noAction
 
 abbrev pub table : Table (Event Envelope)
 table = map (λ k. test (row k)) steps

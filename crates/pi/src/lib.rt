@@ -8,7 +8,7 @@ ghost use Rattle.protocol.specs.declared.Outcome.{Outcome};
 ghost use Rattle.sequence.specs.Rows.{idle, past};
 ghost use Rattle.pi.specs.declared.PiStep.{PiStep};
 ghost use Rattle.pi.specs.Stores.{noReplies};
-ghost use Rattle.pi.specs.Table.{entry1, entry2, entry4, entry5, entry6, entry7, paramEntry, paramRow, next};
+ghost use Rattle.pi.specs.Table.{entry2, entry5, entry7, paramRow, next, request};
 ghost use Rattle.pi.specs.Answers.{begun, view, made, refused, advance, armAt, sent, fedTo, syncOf, finished};
 use net_config::after_zero;
 use net_config::before_zero;
@@ -21,10 +21,10 @@ use protocol::Message;
 use protocol::OptionDevInfoResp;
 use protocol::Outcome;
 use protocol::Refusal;
-use protocol::StatusPoll;
 use protocol::Stored;
 use requests::net_config_req;
 use requests::param_read_req;
+use requests::status_poll;
 
 // The parameters that are read last, in this order.
 const IDS: [u8; 9] = [0x01, 0x07, 0x08, 0x09, 0x06, 0x0B, 0x03, 0x04, 0x05];
@@ -127,14 +127,40 @@ fn sync(replies: PiReplies) -> PiSync
     }
 }
 
+// ---- what is asked
+
+// What is asked when a step begins.
+fn request(step: PiStep) -> Action
+    ensures { λ r. ⌜ r ≡ request step ⌝ }
+{
+    match step {
+        PiStep::WaitStatus => return status_poll(true, BusAddr::Pi),
+        PiStep::WaitDevInfo => return Action::send(Command::DevInfoReq, BusAddr::Pi),
+        PiStep::WaitParam0A => return param_read_req(0x0A, BusAddr::Pi),
+        PiStep::WaitCamConfig1 | PiStep::WaitCamConfig2 => {
+            return Action::send(Command::CamConfigReq, BusAddr::Pi);
+        }
+        PiStep::WaitNetConfig => return net_config_req(false),
+        PiStep::WaitNetConfigPw => return net_config_req(true),
+        PiStep::WaitParams { idx } => {
+            if idx < 9 {
+                return param_read_req(IDS[idx], BusAddr::Pi);
+            }
+        }
+        PiStep::Done => {}
+    }
+    Action::none()
+}
+
 // ---- an envelope from the Pi, by step
 
-fn moved(step: PiStep, replies: PiReplies, action: Action) -> PiFed
-    ensures { λ r. ⌜ r ≡ record { outcome = Outcome.Accepted; action = action; seq = record { step = step; replies = replies } } ⌝ }
+// A step begins.
+fn moved(step: PiStep, replies: PiReplies) -> PiFed
+    ensures { λ r. ⌜ r ≡ record { outcome = Outcome.Accepted; action = request step; seq = record { step = step; replies = replies } } ⌝ }
 {
     PiFed {
         outcome: Outcome::Accepted,
-        action: action,
+        action: request(step),
         seq: PiSequencer {
             step: step,
             replies: replies,
@@ -166,16 +192,6 @@ impl PiSequencer {
         }
     }
 
-    fn wait_status(self, message: Message) -> PiFed
-        ensures { λ r. ⌜ r ≡ armAt entry1 PiStep.WaitDevInfo past self (sent 0 message [] []) ⌝ }
-    {
-        if let Message::PiStatus = message {
-            let action = Action::send(Command::DevInfoReq, BusAddr::Pi);
-            return moved(PiStep::WaitDevInfo, self.replies, action);
-        }
-        self.idle()
-    }
-
     fn wait_dev_info(self, message: Message, text: &[u8], payload: &[u8]) -> PiFed
         ensures { λ r. ⌜ r ≡ armAt entry2 PiStep.WaitParam0A past self (sent 0 message (held (text .entry)) (held (payload .entry))) ⌝ }
     {
@@ -189,31 +205,7 @@ impl PiSequencer {
                 },
             };
             replies.dev_info = dev_info;
-            return moved(
-                PiStep::WaitParam0A,
-                replies,
-                param_read_req(0x0A, BusAddr::Pi),
-            );
-        }
-        self.idle()
-    }
-
-    // A parameter's value; then `action` is sent, and the step is `step`.
-    fn wait_param(self, step: PiStep, action: Action, message: Message) -> PiFed
-        ensures { λ r. ⌜ r ≡ armAt (paramEntry action) step past self (sent 0 message [] []) ⌝ }
-    {
-        if let Message::ParamValue(_) = message {
-            return moved(step, self.replies, action);
-        }
-        self.idle()
-    }
-
-    fn wait_cam_config1(self, message: Message) -> PiFed
-        ensures { λ r. ⌜ r ≡ armAt entry4 PiStep.WaitCamConfig2 past self (sent 0 message [] []) ⌝ }
-    {
-        if let Message::CamConfig(_) = message {
-            let action = Action::send(Command::CamConfigReq, BusAddr::Pi);
-            return moved(PiStep::WaitCamConfig2, self.replies, action);
+            return moved(PiStep::WaitParam0A, replies);
         }
         self.idle()
     }
@@ -228,16 +220,7 @@ impl PiSequencer {
                 value: c,
             };
             replies.cam_config = cam_config;
-            return moved(PiStep::WaitNetConfig, replies, net_config_req(false));
-        }
-        self.idle()
-    }
-
-    fn wait_net_config(self, message: Message) -> PiFed
-        ensures { λ r. ⌜ r ≡ armAt entry6 PiStep.WaitNetConfigPw past self (sent 0 message [] []) ⌝ }
-    {
-        if let Message::NetConfigResp = message {
-            return moved(PiStep::WaitNetConfigPw, self.replies, net_config_req(true));
+            return moved(PiStep::WaitNetConfig, replies);
         }
         self.idle()
     }
@@ -251,11 +234,7 @@ impl PiSequencer {
             let password = after_zero(text);
             replies.ssid = ssid;
             replies.password = password;
-            return moved(
-                PiStep::WaitParams { idx: 0 },
-                replies,
-                param_read_req(IDS[0], BusAddr::Pi),
-            );
+            return moved(PiStep::WaitParams { idx: 0 }, replies);
         }
         self.idle()
     }
@@ -263,15 +242,13 @@ impl PiSequencer {
     fn wait_params(self, idx: usize, message: Message) -> PiFed
         ensures { λ r. ⌜ r ≡ armAt (paramRow idx) (next (PiStep.WaitParams idx)) past self (sent 0 message [] []) ⌝ }
     {
-        if idx < 8 {
-            let next = idx + 1;
-            return self.wait_param(
-                PiStep::WaitParams { idx: next },
-                param_read_req(IDS[next], BusAddr::Pi),
-                message,
-            );
+        if let Message::ParamValue(_) = message {
+            if idx < 8 {
+                return moved(PiStep::WaitParams { idx: idx + 1 }, self.replies);
+            }
+            return moved(PiStep::Done, self.replies);
         }
-        self.wait_param(PiStep::Done, Action::none(), message)
+        self.idle()
     }
 
     fn feed_pi(self, type_id: u8, message: Message, text: &[u8], payload: &[u8]) -> PiFed
@@ -279,19 +256,33 @@ impl PiSequencer {
     {
         let step = self.step;
         match step {
-            PiStep::WaitStatus => self.wait_status(message),
-            PiStep::WaitDevInfo => self.wait_dev_info(message, text, payload),
-            PiStep::WaitParam0A => {
-                let action = Action::send(Command::CamConfigReq, BusAddr::Pi);
-                self.wait_param(PiStep::WaitCamConfig1, action, message)
+            PiStep::WaitStatus => {
+                if let Message::PiStatus = message {
+                    return moved(PiStep::WaitDevInfo, self.replies);
+                }
             }
-            PiStep::WaitCamConfig1 => self.wait_cam_config1(message),
-            PiStep::WaitCamConfig2 => self.wait_cam_config2(message),
-            PiStep::WaitNetConfig => self.wait_net_config(message),
-            PiStep::WaitNetConfigPw => self.wait_net_config_pw(message, text),
-            PiStep::WaitParams { idx } => self.wait_params(idx, message),
-            PiStep::Done => self.idle(),
+            PiStep::WaitDevInfo => return self.wait_dev_info(message, text, payload),
+            PiStep::WaitParam0A => {
+                if let Message::ParamValue(_) = message {
+                    return moved(PiStep::WaitCamConfig1, self.replies);
+                }
+            }
+            PiStep::WaitCamConfig1 => {
+                if let Message::CamConfig(_) = message {
+                    return moved(PiStep::WaitCamConfig2, self.replies);
+                }
+            }
+            PiStep::WaitCamConfig2 => return self.wait_cam_config2(message),
+            PiStep::WaitNetConfig => {
+                if let Message::NetConfigResp = message {
+                    return moved(PiStep::WaitNetConfigPw, self.replies);
+                }
+            }
+            PiStep::WaitNetConfigPw => return self.wait_net_config_pw(message, text),
+            PiStep::WaitParams { idx } => return self.wait_params(idx, message),
+            PiStep::Done => {}
         }
+        self.idle()
     }
 
     // ---- the calls
@@ -299,10 +290,7 @@ impl PiSequencer {
     pub fn new() -> PiStarted
         ensures { λ r. ⌜ r ≡ begun ⌝ }
     {
-        let action = Action::send(
-            Command::StatusPoll(StatusPoll { pi_mode: true }),
-            BusAddr::Pi,
-        );
+        let action = request(PiStep::WaitStatus);
         let replies = PiReplies::none();
         PiStarted {
             action: action,
@@ -338,21 +326,17 @@ impl PiSequencer {
         ensures { λ r. ⌜ r ≡ finished self ⌝ }
     {
         let step = self.step;
-        match step {
-            PiStep::Done => {
-                let sync = sync(self.replies);
-                PiFinished {
-                    outcome: Outcome::Accepted,
-                    sync: sync,
-                }
-            }
-            _ => {
-                let sync = sync(PiReplies::none());
-                PiFinished {
-                    outcome: Outcome::Refused(Refusal::NotDone),
-                    sync: sync,
-                }
-            }
+        if let PiStep::Done = step {
+            let sync = sync(self.replies);
+            return PiFinished {
+                outcome: Outcome::Accepted,
+                sync: sync,
+            };
+        }
+        let sync = sync(PiReplies::none());
+        PiFinished {
+            outcome: Outcome::Refused(Refusal::NotDone),
+            sync: sync,
         }
     }
 }

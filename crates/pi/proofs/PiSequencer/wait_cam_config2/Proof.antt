@@ -15,14 +15,11 @@ use Rattle.pi.proofs.PiSequencer.wait_cam_config2.Tie as tie
 enum-known-message : tie.Need-enum-known-message
 enum-known-message c = search needs
 
-net-config-req-requires : tie.Need-net-config-req-requires
-net-config-req-requires c κs = search needs
-
 moved-requires : tie.Need-moved-requires
 moved-requires c κs = search needs
 
 returns : tie.Need-returns
-returns c = c .moved .ensures ∙ rw (c .before .before .before .before .message .given .1, c .before .net-config-req .ensures)
+returns c = c .moved .ensures ∙ rw (c .before .before .before .message .given .1)
 
 idle-requires : tie.Need-idle-requires
 idle-requires c κs = search needs
@@ -33,11 +30,4 @@ returns-2 c = let a = c .before .before .args in
 
 pub wait-cam-config2-spec : {M : Type 1} → statement M
 wait-cam-config2-spec =
-    tie.close
-    (tie.spec
-    enum-known-message
-    net-config-req-requires
-    moved-requires
-    returns
-    idle-requires
-    returns-2)
+    tie.close (tie.spec enum-known-message moved-requires returns idle-requires returns-2)

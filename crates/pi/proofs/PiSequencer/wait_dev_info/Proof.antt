@@ -22,14 +22,11 @@ from-slice-requires c κs = search needs
 from-slice-requires-2 : tie.Need-from-slice-requires-2
 from-slice-requires-2 c κs = search needs
 
-param-read-req-requires : tie.Need-param-read-req-requires
-param-read-req-requires c κs = search needs
-
 moved-requires : tie.Need-moved-requires
 moved-requires c κs = search needs
 
 returns : tie.Need-returns
-returns c = c .moved .ensures ∙ rw (c .before .before .before .before .before .enum-told .given .1, c .before .param-read-req .ensures, c .before .before .from-slice2 .ensures, c .before .before .before .from-slice .ensures)
+returns c = c .moved .ensures ∙ rw (c .before .before .before .before .enum-told .given .1, c .before .from-slice2 .ensures, c .before .before .from-slice .ensures)
 
 idle-requires : tie.Need-idle-requires
 idle-requires c κs = search needs
@@ -45,7 +42,6 @@ wait-dev-info-spec =
     enum-told
     from-slice-requires
     from-slice-requires-2
-    param-read-req-requires
     moved-requires
     returns
     idle-requires

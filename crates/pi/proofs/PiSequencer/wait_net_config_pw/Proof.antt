@@ -22,17 +22,11 @@ before-zero-requires c κs = search needs
 after-zero-requires : tie.Need-after-zero-requires
 after-zero-requires c κs = search needs
 
-array-read-param-read-req : tie.Need-array-read-param-read-req
-array-read-param-read-req c = search needs
-
-param-read-req-requires : tie.Need-param-read-req-requires
-param-read-req-requires c κs = search needs
-
 moved-requires : tie.Need-moved-requires
 moved-requires c κs = search needs
 
 returns : tie.Need-returns
-returns c = c .moved .ensures ∙ rw (c .before .before .before .before .before .enum-told .given .1, c .before .param-read-req .ensures, c .before .before .after-zero .ensures, c .before .before .before .before-zero .ensures)
+returns c = c .moved .ensures ∙ rw (c .before .before .before .before .enum-told .given .1, c .before .after-zero .ensures, c .before .before .before-zero .ensures)
 
 idle-requires : tie.Need-idle-requires
 idle-requires c κs = search needs
@@ -48,8 +42,6 @@ wait-net-config-pw-spec =
     enum-told
     before-zero-requires
     after-zero-requires
-    array-read-param-read-req
-    param-read-req-requires
     moved-requires
     returns
     idle-requires
