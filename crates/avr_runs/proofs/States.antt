@@ -22,7 +22,7 @@ use Rattle.matching.proofs.Called.{Called, events-rise}
 use Rattle.sequence.specs.declared.OptionInstant.{OptionInstant}
 use Rattle.sequence.specs.Accepted.{none, feedRefusals, checkRefusals, feedOutcome, checkOutcome}
 use Rattle.sequence.specs.Events.{Event, fed, checked, reading, Wait, forever, nanos}
-use Rattle.sequence.specs.Rows.{State, noDeadline, heard}
+use Rattle.sequence.specs.Rows.{reached, State, noDeadline, heard}
 use Rattle.sequence.specs.Calls.{feed, check, ask}
 use Rattle.sequence.proofs.Acceptance.{feed-accepted, check-accepted, feed-fits, check-fits}
 use Rattle.sequence.proofs.Events.{rises, judge}
@@ -112,7 +112,7 @@ module _ (m : DeviceModel) where
   -- what an event that ticks nothing makes of it
   abbrev aside : E → OptionInstant → OptionInstant
   aside (fed d t) x = cond (steps.isNack (fed d t)) (steps.later x t) x
-  aside (checked t) x = cond (steps.reached x t) noDeadline x
+  aside (checked t) x = cond (reached x t) noDeadline x
 
   abbrev pub kept : List E → OptionInstant → E → OptionInstant
   kept es x e = cond (machine.ticks reading (table m) es e) noDeadline (aside e x)
@@ -133,7 +133,7 @@ module _ (m : DeviceModel) where
   fresh es x (fed d t) = refl
   fresh es x (checked t) = go (row m (getD (stepsFor m) (length es) Done) .wait)
     where
-      go : (w : Wait) → cond (steps.waits w) false (steps.reached (rows.deadlineOf w (machine.readingOf reading es)) t) ≡ false
+      go : (w : Wait) → cond (steps.waits w) false (reached (rows.deadlineOf w (machine.readingOf reading es)) t) ≡ false
       go forever = refl
       go (nanos n) = refl
 
@@ -214,9 +214,9 @@ module _ (m : DeviceModel) where
     pended y = rw (w .small)
 
     awaiting : (e : E) → reading e ≤ 18_446_744_071_709_551_615 → Goes es x e
-    awaiting (checked u) h = rw (w .small, w .unchecked u) (go (steps.reached x u) refl)
+    awaiting (checked u) h = rw (w .small, w .unchecked u) (go (reached x u) refl)
       where
-        go : (b : Bool) → steps.reached x u ≡ b
+        go : (b : Bool) → reached x u ≡ b
             → cond b (steps.sends statusPoll (steps.withRepoll (held es x) noDeadline)) (steps.advance (held es x) (checked u)) .state
             ≡ held es (cond (ltb (length es) 2) (cond b noDeadline x) noDeadline)
         go true p = rw (w .small)

@@ -101,12 +101,13 @@ fn call(
     bytes: &[u8; BYTES],
     out: &mut [u8; OUT],
 ) -> Answered {
+    let disarm = done.disarm;
     let at = turn.stream.out;
     let asked = turn.call;
     match asked {
-        Call::Feed(envelope) => feed(done.disarm, envelope, values, bytes, out, at),
+        Call::Feed(envelope) => feed(disarm, envelope, values, bytes, out, at),
         _ => Answered {
-            disarm: done.disarm,
+            disarm: disarm,
             at: at,
         },
     }
