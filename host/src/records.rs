@@ -1,5 +1,6 @@
 //! The records that cross to the library and back, laid out as crates/host,
-//! crates/abi_values, abi_messages, abi and abi_states have them.
+//! crates/abi_values, abi_messages, abi, abi_dsp, abi_avr, abi_pi,
+//! abi_avr_config, abi_arm and abi_disarm have them.
 
 use std::fmt;
 

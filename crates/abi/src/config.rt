@@ -96,10 +96,11 @@ pub fn settings_out(settings: AvrSettings) -> CSettings
 {
     let all = settings.params;
     let params = params_out(all);
+    let mode = settings.mode;
     let len = settings.len;
     let radar_cal = settings.radar_cal;
     CSettings {
-        mode: settings.mode,
+        mode: mode,
         params: params,
         len: len,
         radar_cal: radar_cal,

@@ -20,7 +20,12 @@ use Rattle.abi_values.specs.Params.{paramAs, paramIn, paramOut}
 use Rattle.abi_messages.specs.Messages.{dspStatusIn, dspStatusOut, messageIn}
 use Rattle.abi.specs.Actions.{commandOut}
 use Rattle.abi.specs.Settings.{allKnown}
-use Rattle.abi_states.specs.Steps.{dspStepIn, dspStepOut, avrStepIn, avrStepOut, piStepIn, piStepOut, avrConfigStepIn, avrConfigStepOut, armStepIn, armStepOut, disarmStepIn, disarmStepOut}
+use Rattle.abi_dsp.specs.State.{dspStepIn, dspStepOut}
+use Rattle.abi_avr.specs.State.{avrStepIn, avrStepOut}
+use Rattle.abi_pi.specs.State.{piStepIn, piStepOut}
+use Rattle.abi_avr_config.specs.State.{avrConfigStepIn, avrConfigStepOut}
+use Rattle.abi_arm.specs.State.{armStepIn, armStepOut}
+use Rattle.abi_disarm.specs.State.{disarmStepIn, disarmStepOut}
 use Rattle.abi_laws.specs.Theorem.{messageOut, commandIn, Back}
 use Rattle.dsp_steps.specs.declared.DspStep.{DspStep}
 use Rattle.dsp_steps.specs.declared.DspStep.the-variants as Dsp

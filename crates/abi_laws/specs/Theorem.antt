@@ -44,7 +44,12 @@ use Rattle.abi.specs.declared.action.CCommand.{CCommand}
 use Rattle.abi.specs.declared.action.CAction.{CAction}
 use Rattle.abi.specs.Actions.{actionOut}
 use Rattle.abi.specs.Settings.{settingsIn, settingsOut}
-use Rattle.abi_states.specs.States.{dspIn, dspOut, avrIn, avrOut, piIn, piOut, avrConfigIn, avrConfigOut, armIn, armOut, disarmIn, disarmOut}
+use Rattle.abi_dsp.specs.State.{dspIn, dspOut}
+use Rattle.abi_avr.specs.State.{avrIn, avrOut}
+use Rattle.abi_pi.specs.State.{piIn, piOut}
+use Rattle.abi_avr_config.specs.State.{avrConfigIn, avrConfigOut}
+use Rattle.abi_arm.specs.State.{armIn, armOut}
+use Rattle.abi_disarm.specs.State.{disarmIn, disarmOut}
 
 -- ---- a message as a host writes it: its kind, its record, and nothing in the others
 

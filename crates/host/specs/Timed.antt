@@ -16,9 +16,10 @@ use Rattle.abi_values.specs.Numbers.{modelIn, modelOut, refusalOut}
 use Rattle.abi_messages.specs.declared.CEnvelope.{CEnvelope}
 use Rattle.abi_messages.specs.Messages.{envelopeIn, dspStatusOut}
 use Rattle.abi.specs.Actions.{actionOut}
-use Rattle.abi_states.specs.declared.c_dsp.CDsp.{CDsp}
-use Rattle.abi_states.specs.declared.c_avr.CAvr.{CAvr}
-use Rattle.abi_states.specs.States.{nackOut, dspIn, dspOut, avrIn, avrOut}
+use Rattle.abi_dsp.specs.declared.CDsp.{CDsp}
+use Rattle.abi_avr.specs.declared.CAvr.{CAvr}
+use Rattle.abi_dsp.specs.State.{nackOut, dspIn, dspOut}
+use Rattle.abi_avr.specs.State.{avrIn, avrOut}
 use Rattle.host.specs.declared.c_dsp.CDspFed.{CDspFed}
 use Rattle.host.specs.declared.c_dsp.CDspSync.{CDspSync}
 use Rattle.host.specs.declared.c_dsp.CDspFinished.{CDspFinished}

@@ -24,11 +24,14 @@ use Rattle.abi_messages.specs.Messages.{envelopeIn}
 use Rattle.abi.specs.declared.config.CSettings.{CSettings}
 use Rattle.abi.specs.Actions.{actionOut}
 use Rattle.abi.specs.Settings.{settingsIn}
-use Rattle.abi_states.specs.declared.c_pi.CPi.{CPi}
-use Rattle.abi_states.specs.declared.c_avr_config.CAvrConfig.{CAvrConfig}
-use Rattle.abi_states.specs.declared.c_arm.CArm.{CArm}
-use Rattle.abi_states.specs.declared.c_disarm.CDisarm.{CDisarm}
-use Rattle.abi_states.specs.States.{piIn, piOut, avrConfigIn, avrConfigOut, armIn, armOut, disarmIn, disarmOut}
+use Rattle.abi_pi.specs.declared.CPi.{CPi}
+use Rattle.abi_avr_config.specs.declared.CAvrConfig.{CAvrConfig}
+use Rattle.abi_arm.specs.declared.CArm.{CArm}
+use Rattle.abi_disarm.specs.declared.CDisarm.{CDisarm}
+use Rattle.abi_pi.specs.State.{piIn, piOut}
+use Rattle.abi_avr_config.specs.State.{avrConfigIn, avrConfigOut}
+use Rattle.abi_arm.specs.State.{armIn, armOut}
+use Rattle.abi_disarm.specs.State.{disarmIn, disarmOut}
 use Rattle.host.specs.declared.c_pi.CPiFed.{CPiFed}
 use Rattle.host.specs.declared.c_pi.CPiFinished.{CPiFinished}
 use Rattle.host.specs.declared.c_avr_config.CAvrConfigFed.{CAvrConfigFed}

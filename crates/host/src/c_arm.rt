@@ -7,12 +7,12 @@ ghost use Rattle.host.specs.Untimed.{armStarted, armUnknown, armNewFor, 
 use crate::UNKNOWN;
 use abi::action::CAction;
 use abi::action::action_out;
+use abi_arm::CArm;
+use abi_arm::CArmStep;
+use abi_arm::arm_in;
+use abi_arm::arm_out;
 use abi_messages::CEnvelope;
 use abi_messages::envelope_in;
-use abi_states::c_arm::CArm;
-use abi_states::c_arm::CArmStep;
-use abi_states::c_arm::arm_in;
-use abi_states::c_arm::arm_out;
 use abi_values::model_in;
 use abi_values::refusal_out;
 use arm::ArmFed;

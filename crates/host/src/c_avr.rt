@@ -7,11 +7,11 @@ ghost use Rattle.host.specs.Timed.{avrStarted, avrUnknown, avrNewFor, av
 use crate::UNKNOWN;
 use abi::action::CAction;
 use abi::action::action_out;
+use abi_avr::CAvr;
+use abi_avr::avr_in;
+use abi_avr::avr_out;
 use abi_messages::CEnvelope;
 use abi_messages::envelope_in;
-use abi_states::c_avr::CAvr;
-use abi_states::c_avr::avr_in;
-use abi_states::c_avr::avr_out;
 use abi_values::model_in;
 use abi_values::refusal_out;
 use avr::AvrFed;

@@ -6,11 +6,11 @@ ghost use Rattle.host.specs.Untimed.{disarmStarted, disarmFed, disarmDec
 use crate::UNKNOWN;
 use abi::action::CAction;
 use abi::action::action_out;
+use abi_disarm::CDisarm;
+use abi_disarm::disarm_in;
+use abi_disarm::disarm_out;
 use abi_messages::CEnvelope;
 use abi_messages::envelope_in;
-use abi_states::c_disarm::CDisarm;
-use abi_states::c_disarm::disarm_in;
-use abi_states::c_disarm::disarm_out;
 use abi_values::refusal_out;
 use disarm::DisarmFed;
 use disarm::DisarmSequencer;

@@ -8,12 +8,12 @@ use Rattle.host.specs.Sends.{opened}
 use Rattle.abi_messages.specs.declared.SomeEnvelope.{SomeEnvelope}
 use mathlib.Core.List.{[]}
 use Rattle.host.specs.Untimed.{armDeclined, armFed}
-use Rattle.abi_states.specs.declared.c_arm.SomeArm.{SomeArm}
+use Rattle.abi_arm.specs.declared.SomeArm.{SomeArm}
 use borrow.Author.Needs.{needs}
 use Rattle.host.proofs.c_arm.wigtalom_arm_feed.Statement.{statement}
 use Rattle.host.proofs.c_arm.wigtalom_arm_feed.Tie as tie
 use Rattle.abi_messages.proofs.envelope_in.Reads as envelope-in-reads
-use Rattle.abi_states.proofs.c_arm.arm_in.Reads as arm-in-reads
+use Rattle.abi_arm.proofs.arm_in.Reads as arm-in-reads
 use Rattle.arm.proofs.ArmSequencer.feed.Reads as feed-reads
 use Rattle.host.proofs.c_arm.declined.Reads as declined-reads
 use Rattle.host.proofs.c_arm.fed_out.Reads as fed-out-reads

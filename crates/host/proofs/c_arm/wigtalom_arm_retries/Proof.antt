@@ -2,12 +2,12 @@
 -- Assumes nothing.
 use Rattle.host.proofs.Known.{not-one, one}
 use Rattle.host.specs.Sends.{unknown}
-use Rattle.abi_states.specs.declared.c_arm.SomeArm.{SomeArm}
+use Rattle.abi_arm.specs.declared.SomeArm.{SomeArm}
 use Rattle.host.specs.declared.c_arm.CRetries.{CRetries}
 use borrow.Author.Needs.{needs}
 use Rattle.host.proofs.c_arm.wigtalom_arm_retries.Statement.{statement}
 use Rattle.host.proofs.c_arm.wigtalom_arm_retries.Tie as tie
-use Rattle.abi_states.proofs.c_arm.arm_in.Reads as arm-in-reads
+use Rattle.abi_arm.proofs.arm_in.Reads as arm-in-reads
 use Rattle.arm.proofs.ArmSequencer.retries.Reads as retries-reads
 
 arm-in-requires : tie.Need-arm-in-requires

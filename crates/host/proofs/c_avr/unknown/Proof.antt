@@ -3,7 +3,7 @@
 use borrow.Author.Needs.{needs}
 use Rattle.host.proofs.c_avr.unknown.Statement.{statement}
 use Rattle.host.proofs.c_avr.unknown.Tie as tie
-use Rattle.abi_states.proofs.c_avr.avr_out.Reads as avr-out-reads
+use Rattle.abi_avr.proofs.avr_out.Reads as avr-out-reads
 use Rattle.avr.proofs.AvrSequencer.new.Reads as new-reads
 
 new-requires : tie.Need-new-requires

@@ -4,11 +4,11 @@ use Rattle.avr.specs.Answers.{polled}
 use mathlib.Core.Path.{_∙_, ap}
 use Rattle.host.proofs.Known.{not-one, one}
 use Rattle.host.specs.Timed.{avrDeclined, avrFed}
-use Rattle.abi_states.specs.declared.c_avr.SomeAvr.{SomeAvr}
+use Rattle.abi_avr.specs.declared.SomeAvr.{SomeAvr}
 use borrow.Author.Needs.{needs}
 use Rattle.host.proofs.c_avr.wigtalom_avr_check.Statement.{statement}
 use Rattle.host.proofs.c_avr.wigtalom_avr_check.Tie as tie
-use Rattle.abi_states.proofs.c_avr.avr_in.Reads as avr-in-reads
+use Rattle.abi_avr.proofs.avr_in.Reads as avr-in-reads
 use Rattle.avr.proofs.AvrSequencer.check_cal_timeout.Reads as check-cal-timeout-reads
 use Rattle.host.proofs.c_avr.declined.Reads as declined-reads
 use Rattle.host.proofs.c_avr.fed_out.Reads as fed-out-reads

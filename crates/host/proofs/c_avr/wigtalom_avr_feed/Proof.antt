@@ -7,12 +7,12 @@ use Rattle.host.proofs.Known.{both, not-both}
 use Rattle.host.specs.Sends.{opened}
 use Rattle.abi_messages.specs.declared.SomeEnvelope.{SomeEnvelope}
 use Rattle.host.specs.Timed.{avrDeclined, avrFed}
-use Rattle.abi_states.specs.declared.c_avr.SomeAvr.{SomeAvr}
+use Rattle.abi_avr.specs.declared.SomeAvr.{SomeAvr}
 use borrow.Author.Needs.{needs}
 use Rattle.host.proofs.c_avr.wigtalom_avr_feed.Statement.{statement}
 use Rattle.host.proofs.c_avr.wigtalom_avr_feed.Tie as tie
 use Rattle.abi_messages.proofs.envelope_in.Reads as envelope-in-reads
-use Rattle.abi_states.proofs.c_avr.avr_in.Reads as avr-in-reads
+use Rattle.abi_avr.proofs.avr_in.Reads as avr-in-reads
 use Rattle.avr.proofs.AvrSequencer.feed.Reads as feed-reads
 use Rattle.host.proofs.c_avr.declined.Reads as declined-reads
 use Rattle.host.proofs.c_avr.fed_out.Reads as fed-out-reads

@@ -5,13 +5,13 @@ use Rattle.avr.specs.Answers.{begun, finished}
 use Rattle.host.proofs.Known.{not-one, one}
 use Rattle.host.specs.Sends.{unknown}
 use Rattle.abi_values.specs.Numbers.{refusalOut}
-use Rattle.abi_states.specs.declared.c_avr.SomeAvr.{SomeAvr}
+use Rattle.abi_avr.specs.declared.SomeAvr.{SomeAvr}
 use Rattle.host.specs.declared.c_avr.CAvrFinished.{CAvrFinished}
 use borrow.Author.Needs.{needs}
 use Rattle.host.proofs.c_avr.wigtalom_avr_result.Statement.{statement}
 use Rattle.host.proofs.c_avr.wigtalom_avr_result.Tie as tie
 use Rattle.abi_values.proofs.refusal_out.Reads as refusal-out-reads
-use Rattle.abi_states.proofs.c_avr.avr_in.Reads as avr-in-reads
+use Rattle.abi_avr.proofs.avr_in.Reads as avr-in-reads
 use Rattle.avr.proofs.AvrSequencer.into_result.Reads as into-result-reads
 use Rattle.avr.proofs.AvrSequencer.new.Reads as new-reads
 

@@ -5,7 +5,7 @@ use Rattle.host.proofs.c_avr_config.fed_out.Statement.{statement}
 use Rattle.host.proofs.c_avr_config.fed_out.Tie as tie
 use Rattle.abi.proofs.action.action_out.Reads as action-out-reads
 use Rattle.abi_values.proofs.refusal_out.Reads as refusal-out-reads
-use Rattle.abi_states.proofs.c_avr_config.avr_config_out.Reads as avr-config-out-reads
+use Rattle.abi_avr_config.proofs.avr_config_out.Reads as avr-config-out-reads
 
 refusal-out-requires : tie.Need-refusal-out-requires
 refusal-out-requires c κs = search needs

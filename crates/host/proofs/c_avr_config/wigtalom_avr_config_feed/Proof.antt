@@ -8,12 +8,12 @@ use Rattle.host.specs.Sends.{opened}
 use Rattle.abi_messages.specs.declared.SomeEnvelope.{SomeEnvelope}
 use mathlib.Core.List.{[]}
 use Rattle.host.specs.Untimed.{avrConfigDeclined, avrConfigFed}
-use Rattle.abi_states.specs.declared.c_avr_config.SomeAvrConfig.{SomeAvrConfig}
+use Rattle.abi_avr_config.specs.declared.SomeAvrConfig.{SomeAvrConfig}
 use borrow.Author.Needs.{needs}
 use Rattle.host.proofs.c_avr_config.wigtalom_avr_config_feed.Statement.{statement}
 use Rattle.host.proofs.c_avr_config.wigtalom_avr_config_feed.Tie as tie
 use Rattle.abi_messages.proofs.envelope_in.Reads as envelope-in-reads
-use Rattle.abi_states.proofs.c_avr_config.avr_config_in.Reads as avr-config-in-reads
+use Rattle.abi_avr_config.proofs.avr_config_in.Reads as avr-config-in-reads
 use Rattle.avr_config.proofs.AvrConfigSequencer.feed.Reads as feed-reads
 use Rattle.host.proofs.c_avr_config.declined.Reads as declined-reads
 use Rattle.host.proofs.c_avr_config.fed_out.Reads as fed-out-reads

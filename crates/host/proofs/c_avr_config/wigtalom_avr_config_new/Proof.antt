@@ -7,13 +7,13 @@ use Rattle.host.proofs.Known.{not-one, one}
 use Rattle.host.specs.Untimed.{avrConfigDeclined, avrConfigFed}
 use Rattle.abi.specs.declared.config.SomeSettings.{SomeSettings}
 use Rattle.avr_config.specs.Answers.{begun}
-use Rattle.abi_states.specs.States.{avrConfigOut}
+use Rattle.abi_avr_config.specs.State.{avrConfigOut}
 use Rattle.settings.specs.Settings.{modeOnly}
 use borrow.Author.Needs.{needs}
 use Rattle.host.proofs.c_avr_config.wigtalom_avr_config_new.Statement.{statement}
 use Rattle.host.proofs.c_avr_config.wigtalom_avr_config_new.Tie as tie
 use Rattle.abi.proofs.config.settings_in.Reads as settings-in-reads
-use Rattle.abi_states.proofs.c_avr_config.avr_config_out.Reads as avr-config-out-reads
+use Rattle.abi_avr_config.proofs.avr_config_out.Reads as avr-config-out-reads
 use Rattle.avr_config.proofs.AvrConfigSequencer.new.Reads as new-reads
 use Rattle.host.proofs.c_avr_config.declined.Reads as declined-reads
 use Rattle.host.proofs.c_avr_config.fed_out.Reads as fed-out-reads

@@ -8,12 +8,12 @@ use Rattle.host.specs.Sends.{opened}
 use Rattle.abi_messages.specs.declared.SomeEnvelope.{SomeEnvelope}
 use mathlib.Core.List.{[]}
 use Rattle.host.specs.Untimed.{disarmDeclined, disarmFed}
-use Rattle.abi_states.specs.declared.c_disarm.SomeDisarm.{SomeDisarm}
+use Rattle.abi_disarm.specs.declared.SomeDisarm.{SomeDisarm}
 use borrow.Author.Needs.{needs}
 use Rattle.host.proofs.c_disarm.wigtalom_disarm_feed.Statement.{statement}
 use Rattle.host.proofs.c_disarm.wigtalom_disarm_feed.Tie as tie
 use Rattle.abi_messages.proofs.envelope_in.Reads as envelope-in-reads
-use Rattle.abi_states.proofs.c_disarm.disarm_in.Reads as disarm-in-reads
+use Rattle.abi_disarm.proofs.disarm_in.Reads as disarm-in-reads
 use Rattle.disarm.proofs.DisarmSequencer.feed.Reads as feed-reads
 use Rattle.host.proofs.c_disarm.declined.Reads as declined-reads
 use Rattle.host.proofs.c_disarm.fed_out.Reads as fed-out-reads

@@ -4,7 +4,7 @@ use borrow.Author.Needs.{needs}
 use Rattle.host.proofs.c_disarm.wigtalom_disarm_new.Statement.{statement}
 use Rattle.host.proofs.c_disarm.wigtalom_disarm_new.Tie as tie
 use Rattle.abi.proofs.action.action_out.Reads as action-out-reads
-use Rattle.abi_states.proofs.c_disarm.disarm_out.Reads as disarm-out-reads
+use Rattle.abi_disarm.proofs.disarm_out.Reads as disarm-out-reads
 use Rattle.disarm.proofs.DisarmSequencer.new.Reads as new-reads
 
 new-requires : tie.Need-new-requires

@@ -5,7 +5,7 @@ use Rattle.host.proofs.c_dsp.fed_out.Statement.{statement}
 use Rattle.host.proofs.c_dsp.fed_out.Tie as tie
 use Rattle.abi.proofs.action.action_out.Reads as action-out-reads
 use Rattle.abi_values.proofs.refusal_out.Reads as refusal-out-reads
-use Rattle.abi_states.proofs.c_dsp.dsp_out.Reads as dsp-out-reads
+use Rattle.abi_dsp.proofs.dsp_out.Reads as dsp-out-reads
 
 refusal-out-requires : tie.Need-refusal-out-requires
 refusal-out-requires c κs = search needs

@@ -4,11 +4,11 @@ use Rattle.dsp.specs.Answers.{polled}
 use mathlib.Core.Path.{_∙_, ap}
 use Rattle.host.proofs.Known.{not-one, one}
 use Rattle.host.specs.Timed.{dspDeclined, dspFed}
-use Rattle.abi_states.specs.declared.c_dsp.SomeDsp.{SomeDsp}
+use Rattle.abi_dsp.specs.declared.SomeDsp.{SomeDsp}
 use borrow.Author.Needs.{needs}
 use Rattle.host.proofs.c_dsp.wigtalom_dsp_check.Statement.{statement}
 use Rattle.host.proofs.c_dsp.wigtalom_dsp_check.Tie as tie
-use Rattle.abi_states.proofs.c_dsp.dsp_in.Reads as dsp-in-reads
+use Rattle.abi_dsp.proofs.dsp_in.Reads as dsp-in-reads
 use Rattle.dsp.proofs.DspSequencer.check_timeout.Reads as check-timeout-reads
 use Rattle.host.proofs.c_dsp.declined.Reads as declined-reads
 use Rattle.host.proofs.c_dsp.fed_out.Reads as fed-out-reads

@@ -7,12 +7,12 @@ use Rattle.host.proofs.Known.{both, not-both}
 use Rattle.host.specs.Sends.{opened}
 use Rattle.abi_messages.specs.declared.SomeEnvelope.{SomeEnvelope}
 use Rattle.host.specs.Timed.{dspDeclined, dspFed}
-use Rattle.abi_states.specs.declared.c_dsp.SomeDsp.{SomeDsp}
+use Rattle.abi_dsp.specs.declared.SomeDsp.{SomeDsp}
 use borrow.Author.Needs.{needs}
 use Rattle.host.proofs.c_dsp.wigtalom_dsp_feed.Statement.{statement}
 use Rattle.host.proofs.c_dsp.wigtalom_dsp_feed.Tie as tie
 use Rattle.abi_messages.proofs.envelope_in.Reads as envelope-in-reads
-use Rattle.abi_states.proofs.c_dsp.dsp_in.Reads as dsp-in-reads
+use Rattle.abi_dsp.proofs.dsp_in.Reads as dsp-in-reads
 use Rattle.dsp.proofs.DspSequencer.feed.Reads as feed-reads
 use Rattle.host.proofs.c_dsp.declined.Reads as declined-reads
 use Rattle.host.proofs.c_dsp.fed_out.Reads as fed-out-reads

@@ -5,13 +5,13 @@ use Rattle.host.proofs.Known.{not-one, one}
 use Rattle.host.specs.Sends.{unknown}
 use Rattle.abi_values.specs.Numbers.{refusalOut}
 use Rattle.host.specs.Timed.{dspSync}
-use Rattle.abi_states.specs.declared.c_dsp.SomeDsp.{SomeDsp}
+use Rattle.abi_dsp.specs.declared.SomeDsp.{SomeDsp}
 use Rattle.host.specs.declared.c_dsp.CDspFinished.{CDspFinished}
 use borrow.Author.Needs.{needs}
 use Rattle.host.proofs.c_dsp.wigtalom_dsp_result.Statement.{statement}
 use Rattle.host.proofs.c_dsp.wigtalom_dsp_result.Tie as tie
 use Rattle.abi_values.proofs.refusal_out.Reads as refusal-out-reads
-use Rattle.abi_states.proofs.c_dsp.dsp_in.Reads as dsp-in-reads
+use Rattle.abi_dsp.proofs.dsp_in.Reads as dsp-in-reads
 use Rattle.dsp.proofs.DspSequencer.into_result.Reads as into-result-reads
 use Rattle.dsp.proofs.DspSequencer.new.Reads as new-reads
 use Rattle.host.proofs.c_dsp.sync_out.Reads as sync-out-reads

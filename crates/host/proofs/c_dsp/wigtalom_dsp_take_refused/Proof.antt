@@ -3,16 +3,16 @@
 use Rattle.dsp.specs.Answers.{taken}
 use Rattle.host.proofs.Known.{not-one, one}
 use Rattle.host.specs.Sends.{unknown}
-use Rattle.abi_states.specs.States.{dspOut, nackOut}
+use Rattle.abi_dsp.specs.State.{dspOut, nackOut}
 use Rattle.protocol.specs.Carried.{noNack}
-use Rattle.abi_states.specs.declared.c_dsp.SomeDsp.{SomeDsp}
+use Rattle.abi_dsp.specs.declared.SomeDsp.{SomeDsp}
 use Rattle.host.specs.declared.c_dsp.CDspTaken.{CDspTaken}
 use borrow.Author.Needs.{needs}
 use Rattle.host.proofs.c_dsp.wigtalom_dsp_take_refused.Statement.{statement}
 use Rattle.host.proofs.c_dsp.wigtalom_dsp_take_refused.Tie as tie
-use Rattle.abi_states.proofs.c_dsp.dsp_in.Reads as dsp-in-reads
-use Rattle.abi_states.proofs.c_dsp.dsp_out.Reads as dsp-out-reads
-use Rattle.abi_states.proofs.c_dsp.nack_out.Reads as nack-out-reads
+use Rattle.abi_dsp.proofs.dsp_in.Reads as dsp-in-reads
+use Rattle.abi_dsp.proofs.dsp_out.Reads as dsp-out-reads
+use Rattle.abi_dsp.proofs.nack_out.Reads as nack-out-reads
 use Rattle.dsp.proofs.DspSequencer.take_refused.Reads as take-refused-reads
 use Rattle.protocol.proofs.OptionNack.none.Reads as none-reads
 

@@ -8,12 +8,12 @@ use Rattle.host.specs.Sends.{opened}
 use Rattle.abi_messages.specs.declared.SomeEnvelope.{SomeEnvelope}
 use mathlib.Core.List.{[]}
 use Rattle.host.specs.Untimed.{piDeclined, piFed}
-use Rattle.abi_states.specs.declared.c_pi.SomePi.{SomePi}
+use Rattle.abi_pi.specs.declared.SomePi.{SomePi}
 use borrow.Author.Needs.{needs}
 use Rattle.host.proofs.c_pi.wigtalom_pi_feed.Statement.{statement}
 use Rattle.host.proofs.c_pi.wigtalom_pi_feed.Tie as tie
 use Rattle.abi_messages.proofs.envelope_in.Reads as envelope-in-reads
-use Rattle.abi_states.proofs.c_pi.pi_in.Reads as pi-in-reads
+use Rattle.abi_pi.proofs.pi_in.Reads as pi-in-reads
 use Rattle.host.proofs.c_pi.declined.Reads as declined-reads
 use Rattle.host.proofs.c_pi.fed_out.Reads as fed-out-reads
 use Rattle.pi.proofs.PiSequencer.feed.Reads as feed-reads

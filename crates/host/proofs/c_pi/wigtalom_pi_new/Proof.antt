@@ -4,7 +4,7 @@ use borrow.Author.Needs.{needs}
 use Rattle.host.proofs.c_pi.wigtalom_pi_new.Statement.{statement}
 use Rattle.host.proofs.c_pi.wigtalom_pi_new.Tie as tie
 use Rattle.abi.proofs.action.action_out.Reads as action-out-reads
-use Rattle.abi_states.proofs.c_pi.pi_out.Reads as pi-out-reads
+use Rattle.abi_pi.proofs.pi_out.Reads as pi-out-reads
 use Rattle.pi.proofs.PiSequencer.new.Reads as new-reads
 
 new-requires : tie.Need-new-requires

@@ -4,13 +4,13 @@ use Rattle.pi.specs.Answers.{begun, finished}
 use Rattle.host.proofs.Known.{not-one, one}
 use Rattle.host.specs.Sends.{unknown}
 use Rattle.abi_values.specs.Numbers.{refusalOut}
-use Rattle.abi_states.specs.declared.c_pi.SomePi.{SomePi}
+use Rattle.abi_pi.specs.declared.SomePi.{SomePi}
 use Rattle.host.specs.declared.c_pi.CPiFinished.{CPiFinished}
 use borrow.Author.Needs.{needs}
 use Rattle.host.proofs.c_pi.wigtalom_pi_result.Statement.{statement}
 use Rattle.host.proofs.c_pi.wigtalom_pi_result.Tie as tie
 use Rattle.abi_values.proofs.refusal_out.Reads as refusal-out-reads
-use Rattle.abi_states.proofs.c_pi.pi_in.Reads as pi-in-reads
+use Rattle.abi_pi.proofs.pi_in.Reads as pi-in-reads
 use Rattle.pi.proofs.PiSequencer.into_result.Reads as into-result-reads
 use Rattle.pi.proofs.PiSequencer.new.Reads as new-reads
 
