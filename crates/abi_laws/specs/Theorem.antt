@@ -3,10 +3,8 @@
 -- Assumes nothing.
 use Prim.Native.Nat.{ℕ}
 use mathlib.Core.Path.{_≡_}
-use mathlib.Core.Bool.{true, false}
+use mathlib.Core.Bool.{true}
 use mathlib.Core.List.{List, [], _∷_}
-use lib.Ieee.{binary64, ofBits}
-use lib.IntN.{ℤ}
 use lib.ListN.{getD}
 use Rattle.protocol.specs.declared.BusAddr.{BusAddr}
 use Rattle.protocol.specs.declared.CamConfig.{CamConfig}
@@ -34,10 +32,8 @@ use Rattle.pi.specs.declared.PiSequencer.{PiSequencer}
 use Rattle.avr_config.specs.declared.AvrConfigSequencer.{AvrConfigSequencer}
 use Rattle.arm.specs.declared.ArmSequencer.{ArmSequencer}
 use Rattle.disarm.specs.declared.DisarmSequencer.{DisarmSequencer}
-use Rattle.abi_values.specs.declared.CParamValue.{CParamValue}
 use Rattle.abi_values.specs.Numbers.{addrIn, modelIn, modelOut}
 use Rattle.abi_values.specs.Params.{paramIn, paramOut}
-use Rattle.abi_messages.specs.declared.CDspStatus.{CDspStatus}
 use Rattle.abi_messages.specs.declared.CMessage.{CMessage}
 use Rattle.abi_messages.specs.Messages.{dspStatusIn, dspStatusOut, messageIn}
 use Rattle.abi.specs.declared.action.CCommand.{CCommand}

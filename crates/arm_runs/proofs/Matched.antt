@@ -1,18 +1,18 @@
 -- A list has tests passed in order exactly when they can be matched as a table is: `inOrder` is no second notion.
 -- Assumes nothing.
 use Prim.Native.Nat.{ℕ, zero, suc, _≤_, _<_, zero-le}
-use native.Mathlib.Nat.{le-refl, not-suc-le-zero, le-of-suc-le-suc}
+use native.Mathlib.Nat.{le-refl}
 use native.Mathlib.Decide.{decLt}
 use native.Mathlib.Omega.{arith}
-use mathlib.Core.Path.{_≡_, refl, sym, ap, _∙_}
+use mathlib.Core.Path.{_≡_, refl, sym, _∙_}
 use mathlib.Core.Logic.{_↔_}
-use mathlib.Core.Bool.{Bool, true, false, cond, true≢false}
+use mathlib.Core.Bool.{Bool, true, false, true≢false}
 use mathlib.Core.List.{List, [], _∷_, _++_, map}
 use lib.ListN.{length, getD, drop, length-map, drop-of-length-le}
 use lib.Seq.{drop-cons}
 use Rattle.matching.specs.Matching.{Table, Matching, never}
 use Rattle.matching.specs.Promise.{Each}
-use Rattle.matching.proofs.Machine.{Antitone, Rising, end, then, readingOf, ticks, tickedFrom, ticked}
+use Rattle.matching.proofs.Machine.{Antitone, Rising, end, then, readingOf, ticks, tickedFrom}
 use Rattle.matching.proofs.Embeds.{length-snoc}
 use Rattle.matching.proofs.Entries.{antitone-rows}
 use Rattle.matching.proofs.Ticked.{ticked-all, ticked-full}

@@ -9,13 +9,12 @@ use mathlib.Core.Logic.{_↔_}
 use mathlib.Core.Bool.{Bool, true, false, not, cond, _&&_, _||_, true≢false}
 use mathlib.Core.List.{List, [], _∷_, _++_}
 use lib.Dec.{eqb, ltb}
-use borrow.Author.Tests.{eq-eqb, ne-eqb, lt-ltb, le-ltb, eqb-true, ltb-true, ltb-false}
+use borrow.Author.Tests.{eq-eqb, ne-eqb, eqb-true, ltb-true, ltb-false}
 use Rattle.protocol.specs.declared.Outcome.{Outcome}
 use Rattle.protocol.specs.declared.Outcome.the-variants.{Accepted, Refused}
 use Rattle.protocol.specs.Addr.{byteOf}
 use Rattle.protocol.specs.Kinds.{tag}
 use Rattle.matching.specs.Promise.{afterAll}
-use Rattle.device.specs.declared.model.DeviceModel.{DeviceModel}
 use Rattle.device.specs.Model.{hasCamera}
 use Rattle.sequence.specs.Accepted.{none, bytesRefusals, bytesOutcome}
 use Rattle.sequence.specs.Events.{Envelope}
@@ -24,10 +23,10 @@ use Rattle.arm.specs.declared.ArmStep.{ArmStep}
 use Rattle.arm.specs.declared.ArmStep.the-variants.{WaitDspStatus, WaitAvrStatus, WaitArmAck, WaitPiAndArmed, Done}
 use Rattle.arm.specs.declared.ArmSequencer.{ArmSequencer}
 use Rattle.arm.specs.declared.ArmFed.{ArmFed}
-use Rattle.arm.specs.Answers.{dspStatus, avrStatus, ack, nack, piStatus, armed, answeredAt, fedTo}
+use Rattle.arm.specs.Answers.{dspStatus, avrStatus, ack, nack, piStatus, armed, answeredAt}
 use Rattle.arm.specs.Calls.{after}
 use Rattle.arm.proofs.Steps.{by-step, by-bytes}
-use Rattle.arm_runs.specs.Theorem.{run, inOrder, statuses, acknowledged, counted, Nacks, nacksFrom, nacks, armedSince, Right, Theorem}
+use Rattle.arm_runs.specs.Theorem.{run, inOrder, statuses, acknowledged, counted, Nacks, nacksFrom, nacks, Theorem}
 use Rattle.arm_runs.proofs.InOrder.{snoc, fewer}
 
 -- ---- the state, by what has been passed: d the DSP's status, v the AVR's, k the acknowledgement, p the Pi's status, t the armed text

@@ -11,8 +11,7 @@ use Rattle.protocol.specs.Addr.{byteOf}
 use Rattle.protocol.specs.Action.{noAction}
 use Rattle.protocol.specs.declared.Outcome.{Outcome}
 use Rattle.sequence.specs.Events.{Envelope, Event, fed, plain}
-use Rattle.sequence.specs.Rows.{passes, noDeadline}
-use Rattle.sequence.proofs.Arms.{at-idles, at-ticks}
+use Rattle.sequence.proofs.Arms.{at-idles}
 use Rattle.settings.specs.declared.AvrSettings.{AvrSettings}
 use Rattle.avr_config.specs.declared.AvrConfigStep.{AvrConfigStep}
 use Rattle.avr_config.specs.declared.AvrConfigStep.the-variants.{WaitInitGateAck, WaitParamAck, WaitParamCommitAck, WaitModeEcho, WaitModeCommitAck, WaitRadarCalEcho, WaitRadarCalCommitAck, Done}

@@ -1,8 +1,7 @@
 -- What the calls of a settings run answer: refused with the lowest number that applies, or by the row at the step. There is no clock.
 -- Definitions only.
 -- Assumes nothing.
-use Prim.Native.Nat.{ℕ}
-use mathlib.Core.Bool.{Bool, cond}
+use mathlib.Core.Bool.{cond}
 use mathlib.Core.List.{List, [], _∷_}
 use lib.Dec.{ltb}
 use Rattle.protocol.specs.declared.Outcome.{Outcome}

@@ -6,11 +6,11 @@ use mathlib.Core.Path.{_≡_, refl, sym, ap}
 use mathlib.Core.Bool.{true, false, true≢false}
 use mathlib.Core.List.{List, [], _∷_, _++_}
 use lib.IntN.{ℤ}
-use lib.ListN.{length, replicate}
+use lib.ListN.{replicate}
 use Rattle.protocol.specs.declared.BusAddr.{BusAddr}
 use Rattle.protocol.specs.declared.ParamData.{ParamData}
 use Rattle.protocol.specs.declared.Message.{Message}
-use Rattle.matching.specs.Promise.{afterAll, events, Matched, First}
+use Rattle.matching.specs.Promise.{afterAll, events, Matched}
 use Rattle.matching.proofs.Called.{run-rises}
 use Rattle.matching.proofs.Machine.{leftmost}
 use Rattle.matching.proofs.Leftmost.{leftmost-matching, leftmost-earliest, earliest-unique}

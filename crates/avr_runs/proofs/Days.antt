@@ -26,7 +26,6 @@ use Rattle.avr_steps.specs.Table.{table}
 use Rattle.avr.specs.declared.AvrSequencer.{AvrSequencer}
 use Rattle.avr.specs.Answers.{begun, finished, noSync, isDone}
 use Rattle.avr.specs.Calls.{AvrCall, into-result, after, event}
-use Rattle.avr_runs.specs.Theorem.{Right}
 use Rattle.avr_runs.proofs.States.{sequencer}
 use Rattle.avr_runs.proofs.Whole.{anti, right}
 

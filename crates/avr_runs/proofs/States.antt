@@ -3,15 +3,14 @@
 -- Assumes nothing.
 use Prim.Native.Nat.{ℕ, zero, suc, _≤_, _<_}
 use native.Mathlib.Omega.{arith}
-use native.Mathlib.Decide.{decLt}
 use mathlib.Core.Path.{_≡_, refl, sym, ap, _∙_}
 use mathlib.Core.Bool.{Bool, true, false, cond, _&&_, true≢false}
 use mathlib.Core.List.{List, [], _∷_, _++_}
 use lib.Dec.{leb, ltb, eqb}
 use Rattle.protocol.specs.Addr.{byteOf}
 use Rattle.protocol.specs.Kinds.{tag}
-use lib.ListN.{length, getD, List·getD-eq-default}
-use borrow.Author.Tests.{lt-ltb, le-ltb, le-leb, lt-leb, eqb-true}
+use lib.ListN.{length, getD}
+use borrow.Author.Tests.{le-ltb, eqb-true}
 use Rattle.protocol.specs.declared.Outcome.{Outcome}
 use Rattle.device.specs.declared.model.DeviceModel.{DeviceModel}
 use Rattle.device.specs.Model.{hasFactoryCal}
@@ -35,7 +34,7 @@ use Rattle.avr_steps.specs.Table.{row, next, stepsFor, table}
 use Rattle.avr_steps.specs.Answers as steps
 use Rattle.avr.specs.declared.AvrSequencer.{AvrSequencer}
 use Rattle.avr.specs.declared.AvrFed.{AvrFed}
-use Rattle.avr.specs.Answers.{answered, accepted, refused, isDone}
+use Rattle.avr.specs.Answers.{answered, refused, isDone}
 use Rattle.avr.specs.Calls.{AvrCall, into-result, after, event}
 
 abbrev pub E : Type 0

@@ -23,7 +23,7 @@ use Rattle.avr_steps.specs.declared.AvrStep.{AvrStep}
 use Rattle.avr_steps.specs.Table.{row, next, stepsFor, table}
 use Rattle.avr.specs.Answers.{finished, noSync, isDone}
 use Rattle.avr.specs.Calls.{into-result}
-use Rattle.avr_runs.specs.Theorem.{resultOf, Right, Theorem}
+use Rattle.avr_runs.specs.Theorem.{resultOf, Theorem}
 use Rattle.avr_runs.proofs.States.{E, stateOf, sequencer, others}
 
 module _ (m : DeviceModel) where

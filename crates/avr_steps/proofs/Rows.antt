@@ -15,12 +15,11 @@ use Rattle.protocol.specs.Addr.{byteOf}
 use Rattle.device.specs.declared.model.DeviceModel.{DeviceModel}
 use Rattle.device.specs.Model.{hasFactoryCal}
 use Rattle.sequence.specs.Events.{Event, fed, checked, Wait, forever, nanos}
-use Rattle.sequence.specs.Rows.{Row, passes, due, reached, noDeadline, idle, ticked, heardAt}
+use Rattle.sequence.specs.Rows.{passes, due, reached, noDeadline, idle, ticked}
 use Rattle.sequence.proofs.Arms.{at-ticks, at-idles}
 use Rattle.avr_steps.specs.declared.AvrStep.{AvrStep}
 use Rattle.avr_steps.specs.declared.AvrStep.the-variants.{WaitStatus1, WaitStatus2, WaitDevInfo1, WaitDevInfo2, WaitParam0C, WaitParam0D, WaitConfig, WaitFactoryCal, WaitIfCal, WaitAvrConfig, WaitParam64, WaitTimeSync, Done}
 use Rattle.avr_steps.specs.declared.AvrState.{AvrState}
-use Rattle.avr_steps.specs.declared.AvrMoved.{AvrMoved}
 use Rattle.avr_steps.specs.Stores.{Dated, statusPoll}
 use Rattle.avr_steps.specs.Table.{AvrRow, row, next}
 use Rattle.avr_steps.specs.Answers.{order, polling, isNack, sends, willRepoll, withRepoll, waits, withDeadline, view, made, advance, answered, armAt}

@@ -16,7 +16,6 @@ use Rattle.sequence.specs.Events.{Event, fed, checked, reading, Wait, forever, 
 use Rattle.sequence.specs.Rows.{State, Moved, past, noDeadline, orAfter, reached, heardAt, heard}
 use Rattle.avr_steps.specs.declared.AvrStep.{AvrStep}
 use Rattle.avr_steps.specs.declared.AvrStep.the-variants.{WaitStatus1, WaitStatus2, WaitDevInfo1, WaitDevInfo2, WaitParam0C, WaitParam0D, WaitConfig, WaitFactoryCal, WaitIfCal, WaitAvrConfig, WaitParam64, WaitTimeSync, Done}
-use Rattle.avr_steps.specs.declared.AvrReplies.{AvrReplies}
 use Rattle.avr_steps.specs.declared.AvrState.{AvrState}
 use Rattle.avr_steps.specs.declared.AvrMoved.{AvrMoved}
 use Rattle.avr_steps.specs.Stores.{Dated, Held, noReplies, statusPoll}

@@ -6,11 +6,11 @@ use mathlib.Core.Bool.{true, false, true≢false}
 use mathlib.Core.List.{List, [], _∷_, _++_}
 use Rattle.protocol.specs.declared.BusAddr.{BusAddr}
 use Rattle.protocol.specs.declared.Message.{Message}
-use Rattle.matching.specs.Promise.{afterAll, events, Matched, First}
+use Rattle.matching.specs.Promise.{afterAll, events, Matched}
 use Rattle.matching.proofs.Called.{run-rises}
 use Rattle.matching.proofs.Machine.{leftmost}
 use Rattle.matching.proofs.Leftmost.{leftmost-matching, leftmost-earliest, earliest-unique}
-use Rattle.sequence.specs.Events.{Envelope, Event, checked, reading, plain}
+use Rattle.sequence.specs.Events.{checked, reading, plain}
 use Rattle.sequence.specs.Calls.{Fed, Untimed, fedEvent}
 use Rattle.disarm.specs.declared.DisarmStep.{DisarmStep}
 use Rattle.disarm.specs.declared.DisarmSequencer.{DisarmSequencer}

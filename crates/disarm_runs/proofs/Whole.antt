@@ -3,7 +3,6 @@
 -- Assumes nothing.
 use mathlib.Core.Path.{_≡_, refl}
 use mathlib.Core.Bool.{Bool, true, false}
-use mathlib.Core.List.{List}
 use Rattle.matching.specs.Promise.{Each}
 use Rattle.matching.proofs.Machine.{Antitone}
 use Rattle.matching.proofs.Called.{Called}

@@ -9,12 +9,11 @@ use Rattle.protocol.specs.declared.BusAddr.{BusAddr}
 use Rattle.protocol.specs.declared.Message.{Message}
 use Rattle.protocol.specs.declared.Outcome.{Outcome}
 use Rattle.protocol.specs.declared.DspStatus.{DspStatus}
-use Rattle.protocol.specs.declared.OptionNack.{OptionNack}
 use Rattle.protocol.specs.Carried.{noNack}
 use Rattle.protocol.specs.Refusals.{outcome}
 use Rattle.protocol.specs.Stored.{stored}
 use Rattle.device.specs.declared.model.DeviceModel.{DeviceModel}
-use Rattle.matching.specs.Promise.{Each, afterAll, events, Matched, First}
+use Rattle.matching.specs.Promise.{afterAll, events, Matched, First}
 use Rattle.matching.proofs.Called.{run-rises}
 use Rattle.matching.proofs.Machine.{leftmost}
 use Rattle.matching.proofs.Leftmost.{leftmost-matching, leftmost-earliest}
@@ -28,7 +27,7 @@ use Rattle.dsp.specs.declared.DspSequencer.{DspSequencer}
 use Rattle.dsp.specs.declared.DspFinished.{DspFinished}
 use Rattle.dsp.specs.Answers.{begun, finished, taken, noSync, isDone}
 use Rattle.dsp.specs.Calls.{DspCall, into-result, take-refused, after, event}
-use Rattle.dsp_runs.specs.Theorem.{Names, Right}
+use Rattle.dsp_runs.specs.Theorem.{Right}
 use Rattle.dsp_runs.proofs.States.{sequencer}
 use Rattle.dsp_runs.proofs.Whole.{right}
 

@@ -3,9 +3,9 @@
 -- Assumes nothing.
 use Prim.Native.Nat.{ℕ, zero, suc, _≤_, _<_}
 use native.Mathlib.Omega.{arith}
-use mathlib.Core.Path.{_≡_, refl, ap, _∙_}
+use mathlib.Core.Path.{_≡_, refl, ap}
 use mathlib.Core.Bool.{Bool, true, false, cond}
-use mathlib.Core.List.{List, [], _∷_, _++_}
+use mathlib.Core.List.{List, [], _∷_}
 use lib.ListN.{length, getD}
 use Rattle.protocol.specs.declared.OptionNack.{OptionNack}
 use Rattle.protocol.specs.declared.Outcome.{Outcome}
@@ -30,7 +30,7 @@ use Rattle.dsp_steps.specs.Table.{row, next, stepsFor, table}
 use Rattle.dsp_steps.specs.Answers.{unview}
 use Rattle.dsp.specs.declared.DspSequencer.{DspSequencer}
 use Rattle.dsp.specs.declared.DspFed.{DspFed}
-use Rattle.dsp.specs.Answers.{answered, accepted, refused, taken, withNack, isDone}
+use Rattle.dsp.specs.Answers.{answered, refused, taken, withNack, isDone}
 use Rattle.dsp.specs.Calls.{DspCall, into-result, take-refused, event}
 
 -- the sequencer after a call, if it went by the model m

@@ -2,11 +2,10 @@
 -- the DSP's own: its result, written out, and the nack.
 -- Assumes nothing.
 use Prim.Native.Nat.{ℕ, zero, suc, _-_, _≤_, _<_}
-use native.Mathlib.Nat.{not-suc-le-zero}
 use native.Mathlib.Omega.{arith}
-use mathlib.Core.Path.{_≡_, refl, sym, ap, subst⁻¹, _∙_}
+use mathlib.Core.Path.{_≡_, refl, ap, subst⁻¹, _∙_}
 use mathlib.Core.Logic.{_↔_}
-use mathlib.Core.Bool.{Bool, true, false, cond, _&&_, true≢false}
+use mathlib.Core.Bool.{Bool, true, false, cond}
 use mathlib.Core.List.{List, [], _∷_, _++_, nil≢cons}
 use lib.ListN.{length, getD}
 use Rattle.protocol.specs.declared.OptionNack.{OptionNack}
@@ -14,7 +13,7 @@ use Rattle.protocol.specs.Carried.{noNack}
 use Rattle.protocol.specs.Refusals.{outcome, lowest}
 use Rattle.device.specs.declared.model.DeviceModel.{DeviceModel}
 use Rattle.device.specs.Model.{hasPowerMode}
-use Rattle.matching.specs.Promise.{Each, afterAll, events, Ends, Answers}
+use Rattle.matching.specs.Promise.{Each, afterAll, events}
 use Rattle.matching.proofs.Machine.{Antitone, ticks, tickedFrom}
 use Rattle.matching.proofs.Embeds.{length-snoc}
 use Rattle.matching.proofs.Ticked.{tickedFrom-grows}
@@ -24,21 +23,19 @@ use Rattle.matching.proofs.Entries.{each-append}
 use Rattle.matching.proofs.Spelled.{spelled}
 use Rattle.matching.proofs.Promised as promised
 use Rattle.sequence.specs.Accepted.{resultRefusals}
-use Rattle.sequence.specs.Events.{Envelope, Event, fed, checked, reading}
+use Rattle.sequence.specs.Events.{Envelope, Event, checked, reading}
 use Rattle.sequence.specs.Calls.{feed, check, ask}
 use Rattle.sequence.proofs.Events.{few}
 use Rattle.sequence.proofs.Standing as rows
 use Rattle.dsp_steps.specs.declared.DspStep.{DspStep}
-use Rattle.dsp_steps.specs.declared.DspReplies.{DspReplies}
 use Rattle.dsp_steps.specs.Stores.{nackIn}
 use Rattle.dsp_steps.specs.Table.{row, next, stepsFor, table}
-use Rattle.dsp.specs.declared.DspSync.{DspSync}
 use Rattle.dsp.specs.declared.DspSequencer.{DspSequencer}
 use Rattle.dsp.specs.declared.DspFinished.{DspFinished}
-use Rattle.dsp.specs.Answers.{begun, syncOf, noSync, finished, taken, isDone}
+use Rattle.dsp.specs.Answers.{begun, noSync, finished, taken, isDone}
 use Rattle.dsp.specs.Calls.{DspCall, into-result, take-refused, after, event, takes}
 use Rattle.dsp_runs.specs.Theorem.{resultOf, nackOf, Names, Right, Theorem}
-use Rattle.dsp_runs.proofs.States.{afterFor, stateOf, standing, keep, keptAll, extra, sequencer, others}
+use Rattle.dsp_runs.proofs.States.{afterFor, stateOf, keep, keptAll, extra, sequencer, others}
 use Rattle.dsp_runs.proofs.OneModel.{Knows, knows-done, begins, agree}
 
 -- the result with the model m

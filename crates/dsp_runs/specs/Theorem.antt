@@ -19,7 +19,6 @@ use Rattle.dsp_steps.specs.declared.DspStep.{DspStep}
 use Rattle.dsp_steps.specs.Stores.{fromDsp, statusIn, hwInfoIn, prodInfoIn, nackIn, unansweredIn, noHwInfo}
 use Rattle.dsp_steps.specs.Table.{table}
 use Rattle.dsp.specs.declared.DspSync.{DspSync}
-use Rattle.dsp.specs.declared.DspSequencer.{DspSequencer}
 use Rattle.dsp.specs.Answers.{begun, finished, taken, noSync}
 use Rattle.dsp.specs.Calls.{DspCall, into-result, take-refused, after, event, takes}
 

@@ -13,7 +13,7 @@ use Rattle.device.specs.declared.model.DeviceModel.{DeviceModel}
 use Rattle.device.specs.Model.{hasPowerMode}
 use Rattle.device.specs.Sends.{poll}
 use Rattle.matching.specs.Matching.{Table}
-use Rattle.sequence.specs.Events.{Envelope, Event, Wait, forever, nanos, acking, either}
+use Rattle.sequence.specs.Events.{Envelope, Event, forever, nanos, acking, either}
 use Rattle.sequence.specs.Rows.{Row, test, past}
 use Rattle.dsp_steps.specs.declared.DspStep.{DspStep}
 use Rattle.dsp_steps.specs.declared.DspStep.the-variants.{WaitStatus, WaitDspQuery, WaitDevInfo, WaitProdInfo0, WaitProdInfo1, WaitProdInfo2, WaitConfig, WaitPowerMode, Done}

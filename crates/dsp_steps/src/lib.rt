@@ -2,7 +2,7 @@
 // their refusals and the result, are crate dsp's.
 ghost use mathlib.Core.Path.{_≡_};
 ghost use mathlib.Core.List.{[]};
-ghost use Prim.Native.Nat.{_<_, _+_};
+ghost use Prim.Native.Nat.{_<_};
 ghost use denote.Ref.{now as held};
 ghost use Rattle.protocol.specs.Carried.{noDspStatus};
 ghost use Rattle.device.specs.Model.{modelIn};

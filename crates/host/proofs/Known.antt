@@ -1,7 +1,6 @@
 -- A call goes on where what was handed in is known, and is declined where it is not. The images of a list of three.
 -- Assumes nothing.
 use mathlib.Core.Path.{_≡_, refl}
-use Prim.Native.Nat.{suc}
 use native.Mathlib.Omega.{arith}
 use mathlib.Core.List.{List, [], _∷_, map}
 use lib.ListN.{length, getD}

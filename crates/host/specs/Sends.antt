@@ -1,10 +1,9 @@
 -- What the sends that belong to no sequence answer to a host. Definitions only.
 -- Assumes nothing.
 use Prim.Native.Nat.{ℕ}
-use mathlib.Core.Bool.{Bool, cond, _&&_}
-use mathlib.Core.List.{List, [], _∷_, map}
+use mathlib.Core.Bool.{cond, _&&_}
+use mathlib.Core.List.{List, map}
 use lib.ListN.{replicate}
-use Rattle.protocol.specs.declared.BusAddr.{BusAddr}
 use Rattle.protocol.specs.declared.Action.{Action}
 use Rattle.protocol.specs.Action.{noAction}
 use Rattle.device.specs.Sends as device

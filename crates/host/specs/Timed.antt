@@ -1,7 +1,7 @@
 -- What a host's calls of the sequences with a clock answer, as Untimed has it for the others. Definitions only.
 -- Assumes nothing.
 use Prim.Native.Nat.{ℕ}
-use mathlib.Core.Bool.{Bool, cond, _&&_}
+use mathlib.Core.Bool.{cond, _&&_}
 use mathlib.Core.List.{List}
 use Rattle.protocol.specs.Carried.{noNack}
 use Rattle.device.specs.declared.model.DeviceModel.{DeviceModel}

@@ -2,10 +2,9 @@
 -- Numbers that no case has are refused with 21: nothing is sent, and the state is the one handed in. Definitions only.
 -- Assumes nothing.
 use Prim.Native.Nat.{ℕ}
-use mathlib.Core.Bool.{Bool, cond, _&&_, _||_, false}
+use mathlib.Core.Bool.{cond, _&&_, _||_, false}
 use mathlib.Core.List.{List, []}
 use lib.Dec.{ltb}
-use Rattle.device.specs.declared.model.DeviceModel.{DeviceModel}
 use Rattle.settings.specs.Settings.{modeOnly}
 use Rattle.pi.specs.declared.PiStarted.{PiStarted}
 use Rattle.pi.specs.declared.PiFed.{PiFed}

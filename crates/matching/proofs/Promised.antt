@@ -8,10 +8,10 @@ use mathlib.Core.List.{List, [], _∷_, _++_, map}
 use Prim.Native.Nat.{ℕ, zero, suc, _-_, _≤_, _<_}
 use native.Mathlib.Nat.{le-of-eq, le-of-suc-le-suc, not-suc-le-zero}
 use native.Mathlib.Omega.{arith}
-use lib.ListN.{length, getD, length-map}
-use Rattle.matching.specs.Matching.{Table, Matching, Earliest}
-use Rattle.matching.specs.Promise.{Each, afterAll, clock, events, since, Matched, First, Ends, Answers, tick}
-use Rattle.matching.proofs.Machine.{Antitone, Rising, ticks, tickedFrom, ticked, leftmost, extras}
+use lib.ListN.{length, getD}
+use Rattle.matching.specs.Matching.{Table, Earliest}
+use Rattle.matching.specs.Promise.{Each, afterAll, clock, events, since, Matched, First, Ends, Answers}
+use Rattle.matching.proofs.Machine.{Antitone, ticks, tickedFrom, ticked, leftmost, extras}
 use Rattle.matching.proofs.Embeds.{length-snoc}
 use Rattle.matching.proofs.Leftmost.{leftmost-earliest, earliest-unique}
 use Rattle.matching.proofs.Ticked.{ticked-all, ticked-length, ticked-earliest, ticked-full, tickedFrom-append, tickedFrom-grows, position-tick, earliest-prefix}

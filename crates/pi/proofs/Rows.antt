@@ -13,7 +13,7 @@ use Rattle.protocol.specs.declared.Command.{Command}
 use Rattle.protocol.specs.declared.Outcome.{Outcome}
 use Rattle.protocol.specs.Action.{noAction}
 use Rattle.protocol.specs.Addr.{byteOf}
-use Rattle.sequence.specs.Events.{Envelope, Event, fed, forever}
+use Rattle.sequence.specs.Events.{Envelope, Event, forever}
 use Rattle.sequence.specs.Rows.{idle, ticked, passes, past, noDeadline}
 use Rattle.sequence.proofs.Arms.{at-ticks, at-idles}
 use Rattle.pi.specs.declared.PiStep.{PiStep}

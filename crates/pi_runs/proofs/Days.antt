@@ -2,7 +2,7 @@
 -- theorem would not give these.
 -- Assumes nothing.
 use Prim.Native.Nat.{ℕ}
-use mathlib.Core.Path.{_≡_, refl, sym, _∙_, ap}
+use mathlib.Core.Path.{_≡_, refl, sym, ap}
 use mathlib.Core.Bool.{true, false, true≢false}
 use mathlib.Core.List.{List, [], _∷_, _++_}
 use Rattle.protocol.specs.declared.BusAddr.{BusAddr}
@@ -24,7 +24,6 @@ use Rattle.pi.specs.declared.PiSequencer.{PiSequencer}
 use Rattle.pi.specs.Table.{table}
 use Rattle.pi.specs.Answers.{begun, finished, noSync, isDone}
 use Rattle.pi.specs.Calls.{PiCall, into-result, after, event}
-use Rattle.pi_runs.specs.Theorem.{Right}
 use Rattle.pi_runs.proofs.Whole.{anti, sequencer, right}
 
 -- ---- what comes in

@@ -3,7 +3,7 @@
 -- Assumes nothing.
 use Prim.Native.Nat.{ℕ, _-_, _<_}
 use mathlib.Core.Path.{_≡_, refl, subst⁻¹}
-use mathlib.Core.Bool.{Bool, false}
+use mathlib.Core.Bool.{false}
 use mathlib.Core.List.{List, [], _∷_}
 use lib.ListN.{length, getD}
 use Rattle.protocol.specs.Refusals.{outcome}
@@ -26,7 +26,7 @@ use Rattle.pi.specs.Stores.{noReplies}
 use Rattle.pi.specs.Table.{row, next, steps, table}
 use Rattle.pi.specs.Answers.{view, advance, refused, finished, noSync, isDone}
 use Rattle.pi.specs.Calls.{Asked, into-result, after, event}
-use Rattle.pi_runs.specs.Theorem.{resultOf, Right, Theorem}
+use Rattle.pi_runs.specs.Theorem.{resultOf, Theorem}
 
 abbrev E : Type 0
 E = Event Envelope

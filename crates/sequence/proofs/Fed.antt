@@ -2,14 +2,13 @@
 -- ticked. Proved once; what discharges `Called` of such a sequence.
 -- Assumes nothing.
 use mathlib.Core.Path.{_≡_, refl, ap, _∙_}
-use mathlib.Core.Logic.{_↔_}
 use mathlib.Core.Bool.{Bool, true, false}
 use mathlib.Core.List.{List, []}
-use Prim.Native.Nat.{ℕ, suc, _≤_, _<_}
+use Prim.Native.Nat.{ℕ}
 use native.Mathlib.Omega.{arith}
 use lib.ListN.{length, getD}
 use Rattle.protocol.specs.declared.Outcome.{Outcome}
-use Rattle.matching.specs.Promise.{Each, clock, Ends}
+use Rattle.matching.specs.Promise.{Each, Ends}
 use Rattle.matching.proofs.Machine.{tickedFrom}
 use Rattle.matching.proofs.Called.{Called}
 use Rattle.matching.proofs.Promised as promised

@@ -3,7 +3,7 @@
 -- Assumes nothing.
 use mathlib.Core.Path.{_≡_, refl, sym, ap, _∙_}
 use mathlib.Core.Logic.{_↔_}
-use mathlib.Core.Bool.{Bool, true, false, cond, _&&_, true≢false}
+use mathlib.Core.Bool.{Bool, true, false, cond, true≢false}
 use mathlib.Core.List.{List, [], _∷_, _++_, map}
 use Prim.Native.Nat.{ℕ, zero, suc, _+_, _≤_, _<_}
 use native.Mathlib.Nat.{add-zero, add-suc, suc-add, zero-add, not-suc-le-zero, le-of-suc-le-suc, le-refl}
@@ -13,14 +13,14 @@ use lib.Dec.{leb}
 use lib.ListN.{length, getD, length-map, List·getD-eq-default}
 use borrow.Author.Tests.{leb-true, leb-false, le-leb, lt-leb}
 use Rattle.matching.specs.Matching.{Table, never}
-use Rattle.matching.specs.Promise.{Each, clock}
+use Rattle.matching.specs.Promise.{Each}
 use Rattle.matching.proofs.Machine as machine
 use Rattle.matching.proofs.Embeds.{length-snoc, reading-snoc}
 use Rattle.matching.proofs.Leftmost.{ticks-inside}
 use Rattle.matching.proofs.Entries.{antitone-rows}
 use Rattle.sequence.specs.declared.OptionInstant.{OptionInstant}
 use Rattle.sequence.specs.Events.{Event, fed, checked, reading, Wait, forever, nanos, over}
-use Rattle.sequence.specs.Rows.{Row, test, past, State, noDeadline, deadlineAt, due, passes, deadlineAfter, idle, ticked, heardAt, heard}
+use Rattle.sequence.specs.Rows.{Row, test, past, State, noDeadline, deadlineAt, due, passes, deadlineAfter, idle, ticked, heard}
 
 -- ---- a wait and its deadline
 

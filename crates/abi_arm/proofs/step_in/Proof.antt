@@ -5,15 +5,6 @@ use borrow.Author.Needs.{needs}
 use Rattle.abi_arm.proofs.step_in.Statement.{statement}
 use Rattle.abi_arm.proofs.step_in.Tie as tie
 
-cast-at : tie.Need-cast-at
-cast-at c = search needs
-
-mul-value : tie.Need-mul-value
-mul-value c = search needs
-
-array-copy-out-value : tie.Need-array-copy-out-value
-array-copy-out-value c = search needs
-
 returns : tie.Need-returns
 returns c = rw (lt-ltb _ _ (c .before .if1 .taken))
 
@@ -21,4 +12,4 @@ returns-2 : tie.Need-returns-2
 returns-2 c = rw (le-ltb _ _ (c .if1 .left))
 
 pub step-in-spec : {M : Type 1} → statement M
-step-in-spec = tie.close (tie.spec cast-at mul-value array-copy-out-value returns returns-2)
+step-in-spec = tie.close (tie.spec (λ c. search needs) (λ c. search needs) (λ c. search needs) returns returns-2)

@@ -3,13 +3,9 @@
 use borrow.Author.Needs.{needs}
 use Rattle.abi_dsp.proofs.nack_in.Statement.{statement}
 use Rattle.abi_dsp.proofs.nack_in.Tie as tie
-use Rattle.abi_values.proofs.addr_in.Reads as addr-in-reads
-
-addr-in-requires : tie.Need-addr-in-requires
-addr-in-requires c κs = search needs
 
 returns : tie.Need-returns
 returns c = rw (c .before .addr-in .ensures)
 
 pub nack-in-spec : {M : Type 1} → statement M
-nack-in-spec = tie.close (tie.spec addr-in-requires returns)
+nack-in-spec = tie.close (tie.spec (λ c κs. search needs) returns)

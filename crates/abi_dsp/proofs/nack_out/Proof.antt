@@ -3,13 +3,9 @@
 use borrow.Author.Needs.{needs}
 use Rattle.abi_dsp.proofs.nack_out.Statement.{statement}
 use Rattle.abi_dsp.proofs.nack_out.Tie as tie
-use Rattle.protocol.proofs.BusAddr.as_byte.Reads as as-byte-reads
-
-as-byte-requires : tie.Need-as-byte-requires
-as-byte-requires c κs = search needs
 
 returns : tie.Need-returns
 returns c = rw (c .as-byte .ensures)
 
 pub nack-out-spec : {M : Type 1} → statement M
-nack-out-spec = tie.close (tie.spec as-byte-requires returns)
+nack-out-spec = tie.close (tie.spec (λ c κs. search needs) returns)

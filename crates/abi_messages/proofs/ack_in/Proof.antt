@@ -11,11 +11,8 @@ returns c = rw (eq-eqb _ _ (c .if1 .taken))
 returns-2 : tie.Need-returns-2
 returns-2 c = rw (eq-eqb _ _ (c .if2 .taken), ne-eqb _ _ (c .before .before .if1 .left))
 
-record-in-requires : tie.Need-record-in-requires
-record-in-requires c κs = search needs
-
 returns-3 : tie.Need-returns-3
 returns-3 c = rw (c .record-in .ensures, ne-eqb _ _ (c .before .if2 .left), ne-eqb _ _ (c .before .before .before .if1 .left))
 
 pub ack-in-spec : {M : Type 1} → statement M
-ack-in-spec = tie.close (tie.spec returns returns-2 record-in-requires returns-3)
+ack-in-spec = tie.close (tie.spec returns returns-2 (λ c κs. search needs) returns-3)

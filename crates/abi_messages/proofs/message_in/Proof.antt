@@ -35,20 +35,11 @@ known m =
 returns : tie.Need-returns
 returns c = rw (eq-eqb _ _ (c .before .if1 .taken))
 
-dsp-status-in-requires : tie.Need-dsp-status-in-requires
-dsp-status-in-requires c κs = search needs
-
 returns-2 : tie.Need-returns-2
 returns-2 c = rw (c .dsp-status-in .ensures, eq-eqb _ _ (c .before .if2 .taken), ne-eqb _ _ (c .before .before .before .if1 .left))
 
-param-in-requires : tie.Need-param-in-requires
-param-in-requires c κs = search needs
-
 returns-3 : tie.Need-returns-3
 returns-3 c = rw (c .before .param-in .ensures, eq-eqb _ _ (c .before .before .if3 .taken), ne-eqb _ _ (c .before .before .before .before .if2 .left), ne-eqb _ _ (c .before .before .before .before .before .before .if1 .left))
-
-ack-in-requires : tie.Need-ack-in-requires
-ack-in-requires c κs = search needs
 
 returns-4 : tie.Need-returns-4
 returns-4 c =
@@ -58,4 +49,5 @@ returns-4 c =
 pub message-in-spec : {M : Type 1} → statement M
 message-in-spec =
     tie.close
-    (tie.spec returns dsp-status-in-requires returns-2 param-in-requires returns-3 ack-in-requires returns-4)
+    (tie.spec
+    returns (λ c κs. search needs) returns-2 (λ c κs. search needs) returns-3 (λ c κs. search needs) returns-4)

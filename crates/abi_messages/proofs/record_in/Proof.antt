@@ -20,13 +20,8 @@ returns-4 c = rw (eq-eqb _ _ (c .before .if4 .taken), ne-eqb _ _ (c .before .bef
 returns-5 : tie.Need-returns-5
 returns-5 c = rw (eq-eqb _ _ (c .before .if5 .taken), ne-eqb _ _ (c .before .before .before .if4 .left), ne-eqb _ _ (c .before .before .before .before .before .if3 .left), ne-eqb _ _ (c .before .before .before .before .before .before .before .if2 .left), ne-eqb _ _ (c .before .before .before .before .before .before .before .before .before .if1 .left))
 
-plain-in-requires : tie.Need-plain-in-requires
-plain-in-requires c κs = search needs
-
 returns-6 : tie.Need-returns-6
 returns-6 c = rw (c .plain-in .ensures, ne-eqb _ _ (c .before .if5 .left), ne-eqb _ _ (c .before .before .before .if4 .left), ne-eqb _ _ (c .before .before .before .before .before .if3 .left), ne-eqb _ _ (c .before .before .before .before .before .before .before .if2 .left), ne-eqb _ _ (c .before .before .before .before .before .before .before .before .before .if1 .left))
 
 pub record-in-spec : {M : Type 1} → statement M
-record-in-spec =
-    tie.close
-    (tie.spec returns returns-2 returns-3 returns-4 returns-5 plain-in-requires returns-6)
+record-in-spec = tie.close (tie.spec returns returns-2 returns-3 returns-4 returns-5 (λ c κs. search needs) returns-6)

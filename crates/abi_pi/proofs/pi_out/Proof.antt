@@ -3,13 +3,9 @@
 use borrow.Author.Needs.{needs}
 use Rattle.abi_pi.proofs.pi_out.Statement.{statement}
 use Rattle.abi_pi.proofs.pi_out.Tie as tie
-use Rattle.abi_pi.proofs.step_out.Reads as step-out-reads
-
-step-out-requires : tie.Need-step-out-requires
-step-out-requires c κs = search needs
 
 returns : tie.Need-returns
 returns c = rw (c .step-out .ensures)
 
 pub pi-out-spec : {M : Type 1} → statement M
-pi-out-spec = tie.close (tie.spec step-out-requires returns)
+pi-out-spec = tie.close (tie.spec (λ c κs. search needs) returns)

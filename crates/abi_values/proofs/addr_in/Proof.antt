@@ -4,28 +4,15 @@ use borrow.Author.Tests.{eq-eqb, ne-eqb}
 use borrow.Author.Needs.{needs}
 use Rattle.abi_values.proofs.addr_in.Statement.{statement}
 use Rattle.abi_values.proofs.addr_in.Tie as tie
-use Rattle.abi_values.proofs.known_addr.Reads as known-addr-reads
-
-known-addr-requires : tie.Need-known-addr-requires
-known-addr-requires c κs = search needs
 
 returns : tie.Need-returns
 returns c = rw (c .known-addr .ensures, eq-eqb _ _ (c .before .if1 .taken))
 
-known-addr-requires-2 : tie.Need-known-addr-requires-2
-known-addr-requires-2 c κs = search needs
-
 returns-2 : tie.Need-returns-2
 returns-2 c = rw (c .known-addr2 .ensures, ne-eqb _ _ (c .before .before .if1 .left), eq-eqb _ _ (c .before .if2 .taken))
 
-known-addr-requires-3 : tie.Need-known-addr-requires-3
-known-addr-requires-3 c κs = search needs
-
 returns-3 : tie.Need-returns-3
 returns-3 c = rw (c .known-addr3 .ensures, ne-eqb _ _ (c .before .before .before .if1 .left), ne-eqb _ _ (c .before .before .if2 .left), eq-eqb _ _ (c .before .if3 .taken))
-
-known-addr-requires-4 : tie.Need-known-addr-requires-4
-known-addr-requires-4 c κs = search needs
 
 returns-4 : tie.Need-returns-4
 returns-4 c = rw (c .known-addr4 .ensures, ne-eqb _ _ (c .before .before .before .before .if1 .left), ne-eqb _ _ (c .before .before .before .if2 .left), ne-eqb _ _ (c .before .before .if3 .left), eq-eqb _ _ (c .before .if4 .taken))
@@ -37,12 +24,5 @@ pub addr-in-spec : {M : Type 1} → statement M
 addr-in-spec =
     tie.close
     (tie.spec
-    known-addr-requires
-    returns
-    known-addr-requires-2
-    returns-2
-    known-addr-requires-3
-    returns-3
-    known-addr-requires-4
-    returns-4
-    returns-5)
+    (λ c κs. search needs) returns (λ c κs. search needs) returns-2 (λ c κs. search needs) returns-3
+    (λ c κs. search needs) returns-4 returns-5)

@@ -7,17 +7,10 @@ use borrow.Author.Tests.{eq-eqb, ne-eqb}
 use borrow.Author.Needs.{needs}
 use Rattle.abi_values.proofs.param_in.Statement.{statement}
 use Rattle.abi_values.proofs.param_in.Tie as tie
-use Rattle.abi_values.proofs.known_param.Reads as known-param-reads
-
-known-param-requires : tie.Need-known-param-requires
-known-param-requires c κs = search needs
 
 returns : tie.Need-returns
 returns c = let fits : SFits w32 (c .before .before .before .before .args .param .int24) = search needs in
     rw (c .known-param .ensures, eq-eqb _ _ (c .before .before .if1 .taken), toZ-ofZ fits)
-
-known-param-requires-2 : tie.Need-known-param-requires-2
-known-param-requires-2 c κs = search needs
 
 returns-2 : tie.Need-returns-2
 returns-2 c = rw (c .known-param2 .ensures, eq-eqb _ _ (c .before .if2 .taken), ne-eqb _ _ (c .before .before .before .if1 .left))
@@ -26,5 +19,4 @@ returns-3 : tie.Need-returns-3
 returns-3 c = rw (ne-eqb _ _ (c .if2 .left), ne-eqb _ _ (c .before .before .if1 .left))
 
 pub param-in-spec : {M : Type 1} → statement M
-param-in-spec =
-    tie.close (tie.spec known-param-requires returns known-param-requires-2 returns-2 returns-3)
+param-in-spec = tie.close (tie.spec (λ c κs. search needs) returns (λ c κs. search needs) returns-2 returns-3)

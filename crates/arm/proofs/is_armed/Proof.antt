@@ -9,22 +9,10 @@ use borrow.Author.Needs.{needs}
 use Rattle.arm.proofs.is_armed.Statement.{statement}
 use Rattle.arm.proofs.is_armed.Tie as tie
 
-slice-aggregate-contains : tie.Need-slice-aggregate-contains
-slice-aggregate-contains c = search needs
-
-contains-requires : tie.Need-contains-requires
-contains-requires c κs = search needs
-
 returns : tie.Need-returns
 returns c = let text = now (c .before .before .before .before .args .text) in
     let spoilt : contains cancelledBytes text ≡ true = sym (c .before .contains .ensures) ∙ c .if1 .taken in
     rw spoilt (sym (and-false (contains armedBytes text)))
-
-slice-aggregate-contains-2 : tie.Need-slice-aggregate-contains-2
-slice-aggregate-contains-2 c = search needs
-
-contains-requires-2 : tie.Need-contains-requires-2
-contains-requires-2 c κs = search needs
 
 returns-2 : tie.Need-returns-2
 returns-2 c = let text = now (c .before .before .before .before .before .before .args .text) in
@@ -35,9 +23,4 @@ pub is-armed-spec : {M : Type 1} → statement M
 is-armed-spec =
     tie.close
     (tie.spec
-    slice-aggregate-contains
-    contains-requires
-    returns
-    slice-aggregate-contains-2
-    contains-requires-2
-    returns-2)
+    (λ c. search needs) (λ c κs. search needs) returns (λ c. search needs) (λ c κs. search needs) returns-2)

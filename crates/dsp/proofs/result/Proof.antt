@@ -4,11 +4,8 @@ use borrow.Author.Needs.{needs}
 use Rattle.dsp.proofs.result.Statement.{statement}
 use Rattle.dsp.proofs.result.Tie as tie
 
-from-stored-requires : tie.Need-from-stored-requires
-from-stored-requires c κs = search needs
-
 returns : tie.Need-returns
 returns c = rw (c .from-stored .ensures)
 
 pub result-spec : {M : Type 1} → statement M
-result-spec = tie.close (tie.spec from-stored-requires returns)
+result-spec = tie.close (tie.spec (λ c κs. search needs) returns)

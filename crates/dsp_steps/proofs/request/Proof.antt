@@ -8,24 +8,12 @@ use borrow.Author.Needs.{needs}
 use Rattle.dsp_steps.proofs.request.Statement.{statement}
 use Rattle.dsp_steps.proofs.request.Tie as tie
 
-enum-told : tie.Need-enum-told
-enum-told c = search needs
-
-none-requires : tie.Need-none-requires
-none-requires c κs = search needs
-
-returns : tie.Need-returns
-returns c = search needs
-
-command-requires : tie.Need-command-requires
-command-requires c κs = search needs
-
-send-requires : tie.Need-send-requires
-send-requires c κs = search needs
-
 returns-2 : tie.Need-returns-2
 returns-2 c = c .send .ensures ∙ ap (sendTo BusAddr.Dsp) (c .before .command .ensures) ∙ asked (c .before .before .before .args .step) (c .before .before .match .keys2)
 
 pub request-spec : {M : Type 1} → statement M
 request-spec =
-    tie.close (tie.spec enum-told none-requires returns command-requires send-requires returns-2)
+    tie.close
+    (tie.spec
+    (λ c. search needs) (λ c κs. search needs) (λ c. search needs) (λ c κs. search needs) (λ c κs. search needs)
+    returns-2)

@@ -5,14 +5,8 @@ use borrow.Author.Needs.{needs}
 use Rattle.dsp_steps.proofs.waited.Statement.{statement}
 use Rattle.dsp_steps.proofs.waited.Tie as tie
 
-none-requires : tie.Need-none-requires
-none-requires c κs = search needs
-
-moved-requires : tie.Need-moved-requires
-moved-requires c κs = search needs
-
 returns : tie.Need-returns
 returns c = c .moved .ensures ∙ rw (c .before .none .ensures)
 
 pub waited-spec : {M : Type 1} → statement M
-waited-spec = tie.close (tie.spec none-requires moved-requires returns)
+waited-spec = tie.close (tie.spec (λ c κs. search needs) (λ c κs. search needs) returns)

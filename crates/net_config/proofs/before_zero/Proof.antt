@@ -1,32 +1,24 @@
 -- `before_zero` meets its contract.
 -- Assumes nothing.
-use mathlib.Core.Path.{_≡_, sym, ap, _∙_}
-use Prim.Native.Nat.{ℕ, _+_, _≤_}
+use mathlib.Core.Path.{sym, ap, _∙_}
+use Prim.Native.Nat.{ℕ}
 use native.Mathlib.Omega.{arith}
 use denote.Ref.{now}
 use lib.Seq.{length-take-le}
-use lib.ListN.{length, take, drop, drop-of-length-le}
+use lib.ListN.{take}
 use Rattle.protocol.specs.Stored.{stored}
-use Rattle.net_config.specs.Zero.{firstZero}
 use Rattle.net_config.proofs.Texts.{inside}
 use borrow.Author.Needs.{needs}
 use Rattle.net_config.proofs.before_zero.Statement.{statement}
 use Rattle.net_config.proofs.before_zero.Tie as tie
 
-first-zero-requires : tie.Need-first-zero-requires
-first-zero-requires c κs = search needs
-
 slice-aggregate-from-slice : tie.Need-slice-aggregate-from-slice
 slice-aggregate-from-slice c = let s = now (c .before .before .before .args .text) in
     sym (length-take-le _ s (omega (arith, inside s, c .before .first-zero .ensures)))
-
-from-slice-requires : tie.Need-from-slice-requires
-from-slice-requires c κs = search needs
 
 returns : tie.Need-returns
 returns c = let s = now (c .before .before .before .before .args .text) in
     c .from-slice .ensures ∙ ap (λ (n : ℕ). stored (take n s)) (c .before .before .first-zero .ensures)
 
 pub before-zero-spec : {M : Type 1} → statement M
-before-zero-spec =
-    tie.close (tie.spec first-zero-requires slice-aggregate-from-slice from-slice-requires returns)
+before-zero-spec = tie.close (tie.spec (λ c κs. search needs) slice-aggregate-from-slice (λ c κs. search needs) returns)

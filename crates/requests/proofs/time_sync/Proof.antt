@@ -4,11 +4,5 @@ use borrow.Author.Needs.{needs}
 use Rattle.requests.proofs.time_sync.Statement.{statement}
 use Rattle.requests.proofs.time_sync.Tie as tie
 
-cast-t3 : tie.Need-cast-t3
-cast-t3 c = search needs
-
-returns : tie.Need-returns
-returns c = search needs
-
 pub time-sync-spec : {M : Type 1} → statement M
-time-sync-spec = tie.close (tie.spec cast-t3 returns)
+time-sync-spec = tie.close (tie.spec (λ c. search needs) (λ c. search needs))

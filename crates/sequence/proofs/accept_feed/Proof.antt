@@ -8,22 +8,10 @@ use borrow.Author.Needs.{needs}
 use Rattle.sequence.proofs.accept_feed.Statement.{statement}
 use Rattle.sequence.proofs.accept_feed.Tie as tie
 
-accept-bytes-requires : tie.Need-accept-bytes-requires
-accept-bytes-requires c κs = search needs
-
-enum-told : tie.Need-enum-told
-enum-told c = search needs
-
 returns : tie.Need-returns
 returns c = let a = c .before .before .before .before .before .args in
     let told = c .enum-told .given .1 in
     told ∙ sym (bytes-first (now (a .text)) (now (a .payload)) (checkRefusals (a .last) (a .now)) _ (sym (c .before .before .accept-bytes .ensures) ∙ told))
-
-enum-told-2 : tie.Need-enum-told-2
-enum-told-2 c = search needs
-
-accept-check-requires : tie.Need-accept-check-requires
-accept-check-requires c κs = search needs
 
 returns-2 : tie.Need-returns-2
 returns-2 c = let a = c .before .before .before .before .before .before .args in
@@ -33,4 +21,5 @@ returns-2 c = let a = c .before .before .before .before .before .before .args in
 pub accept-feed-spec : {M : Type 1} → statement M
 accept-feed-spec =
     tie.close
-    (tie.spec accept-bytes-requires enum-told returns enum-told-2 accept-check-requires returns-2)
+    (tie.spec
+    (λ c κs. search needs) (λ c. search needs) returns (λ c. search needs) (λ c κs. search needs) returns-2)

@@ -1,13 +1,13 @@
 -- `kept_params` meets its contract. The loop's invariant: the first i parameters are copied, and nothing follows.
 -- Assumes nothing.
-use mathlib.Core.Path.{_≡_, refl}
+use mathlib.Core.Path.{_≡_}
 use mathlib.Core.Logic.{⊎-elim}
-use Prim.Native.Nat.{ℕ, _-_, _≤_, min}
+use Prim.Native.Nat.{_-_, _≤_, min}
 use native.Mathlib.Omega.{arith}
 use borrow.Author.Needs.{needs}
 use lib.ListN.{length}
 use Rattle.protocol.proofs.Filled.{filled, more}
-use Rattle.settings.specs.Settings.{noParam, keptParams}
+use Rattle.settings.specs.Settings.{noParam}
 use Rattle.settings.proofs.kept_params.Statement.{statement}
 use Rattle.settings.proofs.kept_params.Tie as tie
 

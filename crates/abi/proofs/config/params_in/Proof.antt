@@ -14,7 +14,6 @@ use Rattle.abi_values.specs.declared.CParamValue.{CParamValue}
 use lib.Seq.{take-all}
 use Rattle.abi.proofs.config.params_in.Statement.{statement}
 use Rattle.abi.proofs.config.params_in.Tie as tie
-use Rattle.abi_values.proofs.param_in.Reads as param-in-reads
 
 abbrev Inv-loop : tie.InvT-loop
 Inv-loop params known₀ value₀ i₀ known value i = (i ≤ 32) × (known ≡ allKnown (take i params)) × (value ≡ filled 32 noParam (paramsIn params .value) i)

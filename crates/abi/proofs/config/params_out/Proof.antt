@@ -12,7 +12,6 @@ use Rattle.abi.specs.Actions.{noParam as none}
 use lib.ListN.{length}
 use Rattle.abi.proofs.config.params_out.Statement.{statement}
 use Rattle.abi.proofs.config.params_out.Tie as tie
-use Rattle.abi_values.proofs.param_out.Reads as param-out-reads
 
 abbrev Inv-loop : tie.InvT-loop
 Inv-loop params value₀ i₀ value i = (i ≤ 32) × (value ≡ filled 32 none (paramsOut params) i)

@@ -9,36 +9,6 @@ use borrow.Author.Needs.{needs}
 use Rattle.arm.proofs.ArmSequencer.advance.Statement.{statement}
 use Rattle.arm.proofs.ArmSequencer.advance.Tie as tie
 
-enum-told : tie.Need-enum-told
-enum-told c = search needs
-
-wait-dsp-status-requires : tie.Need-wait-dsp-status-requires
-wait-dsp-status-requires c κs = search needs
-
-enum-told-2 : tie.Need-enum-told-2
-enum-told-2 c = search needs
-
-wait-avr-status-requires : tie.Need-wait-avr-status-requires
-wait-avr-status-requires c κs = search needs
-
-enum-told-3 : tie.Need-enum-told-3
-enum-told-3 c = search needs
-
-wait-arm-ack-requires : tie.Need-wait-arm-ack-requires
-wait-arm-ack-requires c κs = search needs
-
-enum-known-step : tie.Need-enum-known-step
-enum-known-step c = search needs
-
-wait-pi-and-armed-requires : tie.Need-wait-pi-and-armed-requires
-wait-pi-and-armed-requires c κs = search needs
-
-enum-told-4 : tie.Need-enum-told-4
-enum-told-4 c = search needs
-
-idle-requires : tie.Need-idle-requires
-idle-requires c κs = search needs
-
 returns : tie.Need-returns
 returns c = let a = c .before .before .before .before .args in
     c .wait-dsp-status .ensures ∙ at-step (a .self) (plain (a .src) (a .message) (now (a .text))) ArmStep.WaitDspStatus (c .before .enum-told .given .1)
@@ -63,18 +33,6 @@ pub advance-spec : {M : Type 1} → statement M
 advance-spec =
     tie.close
     (tie.spec
-    enum-told
-    wait-dsp-status-requires
-    enum-told-2
-    wait-avr-status-requires
-    enum-told-3
-    wait-arm-ack-requires
-    enum-known-step
-    wait-pi-and-armed-requires
-    enum-told-4
-    idle-requires
-    returns
-    returns-2
-    returns-3
-    returns-4
-    returns-5)
+    (λ c. search needs) (λ c κs. search needs) (λ c. search needs) (λ c κs. search needs) (λ c. search needs)
+    (λ c κs. search needs) (λ c. search needs) (λ c κs. search needs) (λ c. search needs) (λ c κs. search needs) returns
+    returns-2 returns-3 returns-4 returns-5)

@@ -9,21 +9,6 @@ use borrow.Author.Needs.{needs}
 use Rattle.arm.proofs.ArmSequencer.feed.Statement.{statement}
 use Rattle.arm.proofs.ArmSequencer.feed.Tie as tie
 
-accept-bytes-requires : tie.Need-accept-bytes-requires
-accept-bytes-requires c κs = search needs
-
-enum-told : tie.Need-enum-told
-enum-told c = search needs
-
-advance-requires : tie.Need-advance-requires
-advance-requires c κs = search needs
-
-enum-known-outcome : tie.Need-enum-known-outcome
-enum-known-outcome c = search needs
-
-refuse-requires : tie.Need-refuse-requires
-refuse-requires c κs = search needs
-
 returns : tie.Need-returns
 returns c = let a = c .before .before .before .before .before .before .args in
     let e : Envelope = record { src = a .src; type-id = a .type-id; message = a .message; params = []; text = now (a .text); payload = now (a .payload) } in
@@ -40,10 +25,5 @@ pub feed-spec : {M : Type 1} → statement M
 feed-spec =
     tie.close
     (tie.spec
-    accept-bytes-requires
-    enum-told
-    advance-requires
-    enum-known-outcome
-    refuse-requires
-    returns
+    (λ c κs. search needs) (λ c. search needs) (λ c κs. search needs) (λ c. search needs) (λ c κs. search needs) returns
     returns-2)

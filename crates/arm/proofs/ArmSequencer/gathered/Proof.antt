@@ -14,23 +14,11 @@ is-true : (b : Bool) → not b ≡ false → b ≡ true
 is-true true h = refl
 is-true false h = absurd (true≢false h)
 
-none-requires : tie.Need-none-requires
-none-requires c κs = search needs
-
-to-requires : tie.Need-to-requires
-to-requires c κs = search needs
-
 returns : tie.Need-returns
 returns c = c .to .ensures ∙ rw (c .before .before .none .ensures, is-false (c .before .before .before .args .got-pi) (c .before .if1 .taken))
 
-to-requires-2 : tie.Need-to-requires-2
-to-requires-2 c κs = search needs
-
 returns-2 : tie.Need-returns-2
 returns-2 c = c .to2 .ensures ∙ rw (c .before .before .before .none .ensures, is-true (c .before .before .before .before .args .got-pi) (c .before .before .if1 .left), is-false (c .before .before .before .before .args .got-armed) (c .before .if2 .taken))
-
-to-requires-3 : tie.Need-to-requires-3
-to-requires-3 c κs = search needs
 
 returns-3 : tie.Need-returns-3
 returns-3 c = c .to3 .ensures ∙ rw (c .before .before .before .none .ensures, is-true (c .before .before .before .before .args .got-pi) (c .before .before .if1 .left), is-true (c .before .before .before .before .args .got-armed) (c .before .if2 .left))
@@ -38,4 +26,6 @@ returns-3 c = c .to3 .ensures ∙ rw (c .before .before .before .none .ensures, 
 pub gathered-spec : {M : Type 1} → statement M
 gathered-spec =
     tie.close
-    (tie.spec none-requires to-requires returns to-requires-2 returns-2 to-requires-3 returns-3)
+    (tie.spec
+    (λ c κs. search needs) (λ c κs. search needs) returns (λ c κs. search needs) returns-2 (λ c κs. search needs)
+    returns-3)

@@ -6,21 +6,9 @@ use borrow.Author.Needs.{needs}
 use Rattle.arm.proofs.ArmSequencer.retry.Statement.{statement}
 use Rattle.arm.proofs.ArmSequencer.retry.Tie as tie
 
-refuse-requires : tie.Need-refuse-requires
-refuse-requires c κs = search needs
-
 returns : tie.Need-returns
 returns c = let full = eq-eqb (c .before .before .args .self .retries) 65_535 (c .before .if1 .taken) in
     c .refuse .ensures ∙ rw full
-
-status-poll-requires : tie.Need-status-poll-requires
-status-poll-requires c κs = search needs
-
-add-counted : tie.Need-add-counted
-add-counted c = search needs
-
-to-requires : tie.Need-to-requires
-to-requires c κs = search needs
 
 returns-2 : tie.Need-returns-2
 returns-2 c = let room = ne-eqb (c .before .before .before .args .self .retries) 65_535 (c .before .before .if1 .left) in
@@ -29,4 +17,5 @@ returns-2 c = let room = ne-eqb (c .before .before .before .args .self .retries)
 pub retry-spec : {M : Type 1} → statement M
 retry-spec =
     tie.close
-    (tie.spec refuse-requires returns status-poll-requires add-counted to-requires returns-2)
+    (tie.spec
+    (λ c κs. search needs) returns (λ c κs. search needs) (λ c. search needs) (λ c κs. search needs) returns-2)

@@ -10,29 +10,11 @@ use borrow.Author.Needs.{needs}
 use Rattle.arm.proofs.ArmSequencer.wait_arm_ack.Statement.{statement}
 use Rattle.arm.proofs.ArmSequencer.wait_arm_ack.Tie as tie
 
-enum-told : tie.Need-enum-told
-enum-told c = search needs
-
-enum-told-2 : tie.Need-enum-told-2
-enum-told-2 c = search needs
-
-retry-requires : tie.Need-retry-requires
-retry-requires c κs = search needs
-
 returns : tie.Need-returns
 returns c = c .retry .ensures ∙ rw (c .before .before .before .enum-told .given .1, c .before .enum-told2 .given .1)
 
-enum-told-3 : tie.Need-enum-told-3
-enum-told-3 c = search needs
-
-taken-requires : tie.Need-taken-requires
-taken-requires c κs = search needs
-
 returns-2 : tie.Need-returns-2
 returns-2 c = c .taken .ensures ∙ rw (c .before .before .before .enum-told .given .1, c .before .enum-told3 .given .1)
-
-idle-requires : tie.Need-idle-requires
-idle-requires c κs = search needs
 
 returns-3 : tie.Need-returns-3
 returns-3 c = let a = c .before .before .before .before .args in
@@ -41,9 +23,6 @@ returns-3 c = let a = c .before .before .before .before .args in
     c .idle .ensures
     ∙ ack-idles (a .self) e (other-kind 0x30 4 e (none-of ks 4 (a .message) tt (c .before .match2 .keys3)))
     (other-kind 0x30 3 e (none-of ks 3 (a .message) tt (c .before .match2 .keys3)))
-
-idle-requires-2 : tie.Need-idle-requires-2
-idle-requires-2 c κs = search needs
 
 returns-4 : tie.Need-returns-4
 returns-4 c = let a = c .before .before .args in
@@ -55,14 +34,5 @@ pub wait-arm-ack-spec : {M : Type 1} → statement M
 wait-arm-ack-spec =
     tie.close
     (tie.spec
-    enum-told
-    enum-told-2
-    retry-requires
-    returns
-    enum-told-3
-    taken-requires
-    returns-2
-    idle-requires
-    returns-3
-    idle-requires-2
-    returns-4)
+    (λ c. search needs) (λ c. search needs) (λ c κs. search needs) returns (λ c. search needs) (λ c κs. search needs)
+    returns-2 (λ c κs. search needs) returns-3 (λ c κs. search needs) returns-4)

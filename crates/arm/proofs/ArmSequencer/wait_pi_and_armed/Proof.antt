@@ -12,21 +12,6 @@ use borrow.Author.Needs.{needs}
 use Rattle.arm.proofs.ArmSequencer.wait_pi_and_armed.Statement.{statement}
 use Rattle.arm.proofs.ArmSequencer.wait_pi_and_armed.Tie as tie
 
-enum-told : tie.Need-enum-told
-enum-told c = search needs
-
-gathered-requires : tie.Need-gathered-requires
-gathered-requires c κs = search needs
-
-enum-told-2 : tie.Need-enum-told-2
-enum-told-2 c = search needs
-
-is-armed-requires : tie.Need-is-armed-requires
-is-armed-requires c κs = search needs
-
-gathered-requires-2 : tie.Need-gathered-requires-2
-gathered-requires-2 c κs = search needs
-
 returns : tie.Need-returns
 returns c = let a = c .before .before .before .before .before .before .args in
     let e = plain BusAddr.App (a .message) (now (a .text)) in
@@ -35,12 +20,6 @@ returns c = let a = c .before .before .before .before .before .before .args in
     let pi : a .got-pi || piStatus e ≡ a .got-pi = rw told (or-false (a .got-pi)) in
     let arm : a .got-armed || armed e ≡ true = rw (told, said) (or-true (a .got-armed)) in
     c .gathered2 .ensures ∙ gathers (a .got-pi) (a .got-armed) (a .got-pi) true (a .self) e pi arm
-
-gathered-requires-3 : tie.Need-gathered-requires-3
-gathered-requires-3 c κs = search needs
-
-gathered-requires-4 : tie.Need-gathered-requires-4
-gathered-requires-4 c κs = search needs
 
 returns-2 : tie.Need-returns-2
 returns-2 c = let a = c .before .before .before .before .args in
@@ -71,14 +50,5 @@ pub wait-pi-and-armed-spec : {M : Type 1} → statement M
 wait-pi-and-armed-spec =
     tie.close
     (tie.spec
-    enum-told
-    gathered-requires
-    enum-told-2
-    is-armed-requires
-    gathered-requires-2
-    returns
-    gathered-requires-3
-    gathered-requires-4
-    returns-2
-    returns-3
-    returns-4)
+    (λ c. search needs) (λ c κs. search needs) (λ c. search needs) (λ c κs. search needs) (λ c κs. search needs) returns
+    (λ c κs. search needs) (λ c κs. search needs) returns-2 returns-3 returns-4)

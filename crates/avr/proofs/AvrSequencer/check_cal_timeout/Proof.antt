@@ -11,30 +11,12 @@ use borrow.Author.Needs.{needs}
 use Rattle.avr.proofs.AvrSequencer.check_cal_timeout.Statement.{statement}
 use Rattle.avr.proofs.AvrSequencer.check_cal_timeout.Tie as tie
 
-accept-check-requires : tie.Need-accept-check-requires
-accept-check-requires c κs = search needs
-
-enum-told : tie.Need-enum-told
-enum-told c = search needs
-
-check-requires : tie.Need-check-requires
-check-requires c κs = search needs
-
-accepted-requires : tie.Need-accepted-requires
-accepted-requires c κs = search needs
-
 returns : tie.Need-returns
 returns c = let s = c .before .before .before .before .before .before .args .self in
     let t = c .before .before .before .before .before .before .args .now in
     let o = sym (c .before .before .before .before .before .accept-check .ensures) ∙ c .before .before .before .enum-told .given .1 in
     c .accepted .ensures ∙ ap (λ (w : AvrMoved). accepted w t) (c .before .check .ensures)
     ∙ judged-accepted (checkOutcome (s .last) t) (accepted (steps.answered (s .state) (checked t)) t) (refused s) o
-
-enum-known-outcome : tie.Need-enum-known-outcome
-enum-known-outcome c = search needs
-
-refuse-requires : tie.Need-refuse-requires
-refuse-requires c κs = search needs
 
 returns-2 : tie.Need-returns-2
 returns-2 c = let s = c .before .before .before .before .before .args .self in
@@ -46,11 +28,5 @@ pub check-cal-timeout-spec : {M : Type 1} → statement M
 check-cal-timeout-spec =
     tie.close
     (tie.spec
-    accept-check-requires
-    enum-told
-    check-requires
-    accepted-requires
-    returns
-    enum-known-outcome
-    refuse-requires
-    returns-2)
+    (λ c κs. search needs) (λ c. search needs) (λ c κs. search needs) (λ c κs. search needs) returns (λ c. search needs)
+    (λ c κs. search needs) returns-2)

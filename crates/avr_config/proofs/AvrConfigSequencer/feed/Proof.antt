@@ -14,18 +14,6 @@ use borrow.Author.Needs.{needs}
 use Rattle.avr_config.proofs.AvrConfigSequencer.feed.Statement.{statement}
 use Rattle.avr_config.proofs.AvrConfigSequencer.feed.Tie as tie
 
-accept-bytes-requires : tie.Need-accept-bytes-requires
-accept-bytes-requires c κs = search needs
-
-enum-told : tie.Need-enum-told
-enum-told c = search needs
-
-enum-told-2 : tie.Need-enum-told-2
-enum-told-2 c = search needs
-
-feed-avr-requires : tie.Need-feed-avr-requires
-feed-avr-requires c κs = search needs
-
 returns : tie.Need-returns
 returns c = let a = c .before .before .before .before .before .before .before .before .args in
     let e : Envelope = record { src = a .src; type-id = a .type-id; message = a .message; params = []; text = now (a .text); payload = now (a .payload) } in
@@ -33,21 +21,12 @@ returns c = let a = c .before .before .before .before .before .before .before .b
     c .feed-avr .ensures ∙ ap (λ (b : BusAddr). advance (a .self) (fed (plain b (a .message) []) 0)) (sym (c .before .enum-told2 .given .1))
     ∙ unread (a .self .step) (a .self) e ∙ judged-accepted (bytesOutcome (now (a .text)) (now (a .payload))) (advance (a .self) (fed e 0)) (refused (a .self)) o
 
-idle-requires : tie.Need-idle-requires
-idle-requires c κs = search needs
-
 returns-2 : tie.Need-returns-2
 returns-2 c = let a = c .before .before .before .before .before .before .before .args in
     let e : Envelope = record { src = a .src; type-id = a .type-id; message = a .message; params = []; text = now (a .text); payload = now (a .payload) } in
     let o = sym (c .before .before .before .before .accept-bytes .ensures) ∙ c .before .before .enum-told .given .1 in
     c .idle .ensures ∙ idles (a .self .step) (a .self) e (foreign (a .self .step) (a .self .settings) e (elsewhere BusAddr.Avr (a .src) (c .before .match2 .keys2)))
     ∙ judged-accepted (bytesOutcome (now (a .text)) (now (a .payload))) (advance (a .self) (fed e 0)) (refused (a .self)) o
-
-enum-known-outcome : tie.Need-enum-known-outcome
-enum-known-outcome c = search needs
-
-refuse-requires : tie.Need-refuse-requires
-refuse-requires c κs = search needs
 
 returns-3 : tie.Need-returns-3
 returns-3 c = let a = c .before .before .before .before .before .before .before .args in
@@ -59,13 +38,5 @@ pub feed-spec : {M : Type 1} → statement M
 feed-spec =
     tie.close
     (tie.spec
-    accept-bytes-requires
-    enum-told
-    enum-told-2
-    feed-avr-requires
-    returns
-    idle-requires
-    returns-2
-    enum-known-outcome
-    refuse-requires
-    returns-3)
+    (λ c κs. search needs) (λ c. search needs) (λ c. search needs) (λ c κs. search needs) returns (λ c κs. search needs)
+    returns-2 (λ c. search needs) (λ c κs. search needs) returns-3)

@@ -5,14 +5,8 @@ use borrow.Author.Needs.{needs}
 use Rattle.avr_config.proofs.AvrConfigSequencer.send_mode.Statement.{statement}
 use Rattle.avr_config.proofs.AvrConfigSequencer.send_mode.Tie as tie
 
-send-requires : tie.Need-send-requires
-send-requires c κs = search needs
-
-to-requires : tie.Need-to-requires
-to-requires c κs = search needs
-
 returns : tie.Need-returns
 returns c = c .to .ensures ∙ rw (c .before .send .ensures)
 
 pub send-mode-spec : {M : Type 1} → statement M
-send-mode-spec = tie.close (tie.spec send-requires to-requires returns)
+send-mode-spec = tie.close (tie.spec (λ c κs. search needs) (λ c κs. search needs) returns)

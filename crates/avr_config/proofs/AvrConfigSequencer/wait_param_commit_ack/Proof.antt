@@ -14,29 +14,14 @@ use borrow.Author.Needs.{needs}
 use Rattle.avr_config.proofs.AvrConfigSequencer.wait_param_commit_ack.Statement.{statement}
 use Rattle.avr_config.proofs.AvrConfigSequencer.wait_param_commit_ack.Tie as tie
 
-enum-told : tie.Need-enum-told
-enum-told c = search needs
-
-add-send-param : tie.Need-add-send-param
-add-send-param c = search needs
-
-send-param-requires : tie.Need-send-param-requires
-send-param-requires c κs = search needs
-
 returns : tie.Need-returns
 returns c = let a = c .before .before .before .before .args in
     c .send-param .ensures ∙ ticks (AvrConfigStep.WaitParamCommitAck (a .param-idx)) (a .self) (plain BusAddr.Avr (a .message) []) (rw (c .before .before .enum-told .given .1))
-
-send-mode-requires : tie.Need-send-mode-requires
-send-mode-requires c κs = search needs
 
 returns-2 : tie.Need-returns-2
 returns-2 c = let a = c .before .before .before .before .args in
     c .send-mode .ensures ∙ ap (goes (a .self)) (sym (past-last (a .self .settings) (a .param-idx + 1) (omega arith)))
     ∙ ticks (AvrConfigStep.WaitParamCommitAck (a .param-idx)) (a .self) (plain BusAddr.Avr (a .message) []) (rw (c .before .before .enum-told .given .1))
-
-idle-requires : tie.Need-idle-requires
-idle-requires c κs = search needs
 
 returns-3 : tie.Need-returns-3
 returns-3 c = let a = c .before .before .args in
@@ -46,11 +31,5 @@ pub wait-param-commit-ack-spec : {M : Type 1} → statement M
 wait-param-commit-ack-spec =
     tie.close
     (tie.spec
-    enum-told
-    add-send-param
-    send-param-requires
-    returns
-    send-mode-requires
-    returns-2
-    idle-requires
-    returns-3)
+    (λ c. search needs) (λ c. search needs) (λ c κs. search needs) returns (λ c κs. search needs) returns-2
+    (λ c κs. search needs) returns-3)

@@ -11,21 +11,9 @@ use borrow.Author.Needs.{needs}
 use Rattle.avr_config.proofs.AvrConfigSequencer.wait_radar_cal_commit_ack.Statement.{statement}
 use Rattle.avr_config.proofs.AvrConfigSequencer.wait_radar_cal_commit_ack.Tie as tie
 
-enum-told : tie.Need-enum-told
-enum-told c = search needs
-
-none-requires : tie.Need-none-requires
-none-requires c κs = search needs
-
-to-requires : tie.Need-to-requires
-to-requires c κs = search needs
-
 returns : tie.Need-returns
 returns c = let a = c .before .before .before .before .args in
     (rw (c .before .none .ensures) at (c .to .ensures)) ∙ ticks AvrConfigStep.WaitRadarCalCommitAck (a .self) (plain BusAddr.Avr (a .message) []) (rw (c .before .before .enum-told .given .1))
-
-idle-requires : tie.Need-idle-requires
-idle-requires c κs = search needs
 
 returns-2 : tie.Need-returns-2
 returns-2 c = let a = c .before .before .args in
@@ -33,4 +21,6 @@ returns-2 c = let a = c .before .before .args in
 
 pub wait-radar-cal-commit-ack-spec : {M : Type 1} → statement M
 wait-radar-cal-commit-ack-spec =
-    tie.close (tie.spec enum-told none-requires to-requires returns idle-requires returns-2)
+    tie.close
+    (tie.spec
+    (λ c. search needs) (λ c κs. search needs) (λ c κs. search needs) returns (λ c κs. search needs) returns-2)

@@ -7,24 +7,9 @@ use borrow.Author.Needs.{needs}
 use Rattle.avr_steps.proofs.AvrState.after_if_cal.Statement.{statement}
 use Rattle.avr_steps.proofs.AvrState.after_if_cal.Tie as tie
 
-none-requires : tie.Need-none-requires
-none-requires c κs = search needs
-
-with-deadline-requires : tie.Need-with-deadline-requires
-with-deadline-requires c κs = search needs
-
-has-factory-cal-requires : tie.Need-has-factory-cal-requires
-has-factory-cal-requires c κs = search needs
-
-moved-requires : tie.Need-moved-requires
-moved-requires c κs = search needs
-
 returns : tie.Need-returns
 returns c = let on : hasFactoryCal (c .before .before .before .before .before .args .self .model) ≡ true = sym (c .before .before .has-factory-cal .ensures) ∙ c .before .if1 .taken in
     c .moved .ensures ∙ rw (on, c .before .before .before .with-deadline .ensures, c .before .before .before .before .none .ensures)
-
-moved-requires-2 : tie.Need-moved-requires-2
-moved-requires-2 c κs = search needs
 
 returns-2 : tie.Need-returns-2
 returns-2 c = let off : hasFactoryCal (c .before .before .before .before .before .args .self .model) ≡ false = sym (c .before .before .has-factory-cal .ensures) ∙ c .before .if1 .left in
@@ -34,10 +19,5 @@ pub after-if-cal-spec : {M : Type 1} → statement M
 after-if-cal-spec =
     tie.close
     (tie.spec
-    none-requires
-    with-deadline-requires
-    has-factory-cal-requires
-    moved-requires
-    returns
-    moved-requires-2
-    returns-2)
+    (λ c κs. search needs) (λ c κs. search needs) (λ c κs. search needs) (λ c κs. search needs) returns
+    (λ c κs. search needs) returns-2)

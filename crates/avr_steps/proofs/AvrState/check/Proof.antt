@@ -9,25 +9,10 @@ use borrow.Author.Needs.{needs}
 use Rattle.avr_steps.proofs.AvrState.check.Statement.{statement}
 use Rattle.avr_steps.proofs.AvrState.check.Tie as tie
 
-reached-requires : tie.Need-reached-requires
-reached-requires c κs = search needs
-
-check-cal-requires : tie.Need-check-cal-requires
-check-cal-requires c κs = search needs
-
 returns : tie.Need-returns
 returns c = let a = c .before .before .before .before .args in
     let off : reached (a .self .«repoll_at») (a .now) ≡ false = sym (c .before .before .reached .ensures) ∙ not-true _ (c .before .if1 .taken) in
     c .check-cal .ensures ∙ not-repolled (a .self) (a .now) off
-
-none-requires : tie.Need-none-requires
-none-requires c κs = search needs
-
-with-repoll-requires : tie.Need-with-repoll-requires
-with-repoll-requires c κs = search needs
-
-status-poll-requires : tie.Need-status-poll-requires
-status-poll-requires c κs = search needs
 
 returns-2 : tie.Need-returns-2
 returns-2 c = let a = c .before .before .before .before .before .before .args in
@@ -36,4 +21,7 @@ returns-2 c = let a = c .before .before .before .before .before .before .args in
 
 pub check-spec : {M : Type 1} → statement M
 check-spec =
-    tie.close (tie.spec reached-requires check-cal-requires returns none-requires with-repoll-requires status-poll-requires returns-2)
+    tie.close
+    (tie.spec
+    (λ c κs. search needs) (λ c κs. search needs) returns (λ c κs. search needs) (λ c κs. search needs)
+    (λ c κs. search needs) returns-2)

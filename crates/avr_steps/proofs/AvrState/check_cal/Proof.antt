@@ -12,37 +12,10 @@ use borrow.Author.Needs.{needs}
 use Rattle.avr_steps.proofs.AvrState.check_cal.Statement.{statement}
 use Rattle.avr_steps.proofs.AvrState.check_cal.Tie as tie
 
-reached-requires : tie.Need-reached-requires
-reached-requires c κs = search needs
-
-idle-requires : tie.Need-idle-requires
-idle-requires c κs = search needs
-
 returns : tie.Need-returns
 returns c = let a = c .before .before .before .before .args in
     let off : reached (a .self .«cal_deadline») (a .now) ≡ false = sym (c .before .before .reached .ensures) ∙ not-true _ (c .before .if1 .taken) in
     c .idle .ensures ∙ quiet (a .self) (a .now) off
-
-enum-told : tie.Need-enum-told
-enum-told c = search needs
-
-to-if-cal-requires : tie.Need-to-if-cal-requires
-to-if-cal-requires c κs = search needs
-
-enum-told-2 : tie.Need-enum-told-2
-enum-told-2 c = search needs
-
-after-if-cal-requires : tie.Need-after-if-cal-requires
-after-if-cal-requires c κs = search needs
-
-none-requires : tie.Need-none-requires
-none-requires c κs = search needs
-
-with-deadline-requires : tie.Need-with-deadline-requires
-with-deadline-requires c κs = search needs
-
-idle-requires-2 : tie.Need-idle-requires-2
-idle-requires-2 c κs = search needs
 
 returns-2 : tie.Need-returns-2
 returns-2 c = let s = c .before .before .before .before .before .before .args .self in
@@ -70,16 +43,6 @@ pub check-cal-spec : {M : Type 1} → statement M
 check-cal-spec =
     tie.close
     (tie.spec
-    reached-requires
-    idle-requires
-    returns
-    enum-told
-    to-if-cal-requires
-    enum-told-2
-    after-if-cal-requires
-    none-requires
-    with-deadline-requires
-    idle-requires-2
-    returns-2
-    returns-3
+    (λ c κs. search needs) (λ c κs. search needs) returns (λ c. search needs) (λ c κs. search needs) (λ c. search needs)
+    (λ c κs. search needs) (λ c κs. search needs) (λ c κs. search needs) (λ c κs. search needs) returns-2 returns-3
     returns-4)

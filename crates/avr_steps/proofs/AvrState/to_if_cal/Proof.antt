@@ -5,18 +5,8 @@ use borrow.Author.Needs.{needs}
 use Rattle.avr_steps.proofs.AvrState.to_if_cal.Statement.{statement}
 use Rattle.avr_steps.proofs.AvrState.to_if_cal.Tie as tie
 
-after-requires : tie.Need-after-requires
-after-requires c κs = search needs
-
-with-deadline-requires : tie.Need-with-deadline-requires
-with-deadline-requires c κs = search needs
-
-moved-requires : tie.Need-moved-requires
-moved-requires c κs = search needs
-
 returns : tie.Need-returns
 returns c = c .moved .ensures ∙ rw (c .before .with-deadline .ensures, c .before .before .after .ensures)
 
 pub to-if-cal-spec : {M : Type 1} → statement M
-to-if-cal-spec =
-    tie.close (tie.spec after-requires with-deadline-requires moved-requires returns)
+to-if-cal-spec = tie.close (tie.spec (λ c κs. search needs) (λ c κs. search needs) (λ c κs. search needs) returns)

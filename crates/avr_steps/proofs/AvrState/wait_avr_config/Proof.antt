@@ -13,20 +13,8 @@ use borrow.Author.Needs.{needs}
 use Rattle.avr_steps.proofs.AvrState.wait_avr_config.Statement.{statement}
 use Rattle.avr_steps.proofs.AvrState.wait_avr_config.Tie as tie
 
-enum-told : tie.Need-enum-told
-enum-told c = search needs
-
-from-slice-requires : tie.Need-from-slice-requires
-from-slice-requires c κs = search needs
-
-moved-requires : tie.Need-moved-requires
-moved-requires c κs = search needs
-
 returns : tie.Need-returns
 returns c = c .moved .ensures ∙ rw (c .before .before .before .enum-told .given .1, c .before .from-slice .ensures)
-
-idle-requires : tie.Need-idle-requires
-idle-requires c κs = search needs
 
 returns-2 : tie.Need-returns-2
 returns-2 c = let a = c .before .before .before .args in
@@ -36,9 +24,4 @@ pub wait-avr-config-spec : {M : Type 1} → statement M
 wait-avr-config-spec =
     tie.close
     (tie.spec
-    enum-told
-    from-slice-requires
-    moved-requires
-    returns
-    idle-requires
-    returns-2)
+    (λ c. search needs) (λ c κs. search needs) (λ c κs. search needs) returns (λ c κs. search needs) returns-2)

@@ -13,34 +13,13 @@ use borrow.Author.Needs.{needs}
 use Rattle.avr_steps.proofs.AvrState.wait_config.Statement.{statement}
 use Rattle.avr_steps.proofs.AvrState.wait_config.Tie as tie
 
-enum-told : tie.Need-enum-told
-enum-told c = search needs
-
-has-factory-cal-requires : tie.Need-has-factory-cal-requires
-has-factory-cal-requires c κs = search needs
-
-after-requires : tie.Need-after-requires
-after-requires c κs = search needs
-
-with-deadline-requires : tie.Need-with-deadline-requires
-with-deadline-requires c κs = search needs
-
-moved-requires : tie.Need-moved-requires
-moved-requires c κs = search needs
-
 returns : tie.Need-returns
 returns c = let on : hasFactoryCal (c .before .before .before .before .before .before .before .before .args .self .model) ≡ true = sym (c .before .before .before .before .has-factory-cal .ensures) ∙ c .before .before .before .if1 .taken in
     c .moved .ensures ∙ rw (c .before .before .before .before .before .before .enum-told .given .1, on, c .before .with-deadline .ensures, c .before .before .after .ensures)
 
-to-if-cal-requires : tie.Need-to-if-cal-requires
-to-if-cal-requires c κs = search needs
-
 returns-2 : tie.Need-returns-2
 returns-2 c = let off : hasFactoryCal (c .before .before .before .before .before .before .args .self .model) ≡ false = sym (c .before .before .has-factory-cal .ensures) ∙ c .before .if1 .left in
     c .to-if-cal .ensures ∙ rw (c .before .before .before .before .enum-told .given .1, off)
-
-idle-requires : tie.Need-idle-requires
-idle-requires c κs = search needs
 
 returns-3 : tie.Need-returns-3
 returns-3 c = let a = c .before .before .args in
@@ -51,13 +30,5 @@ pub wait-config-spec : {M : Type 1} → statement M
 wait-config-spec =
     tie.close
     (tie.spec
-    enum-told
-    has-factory-cal-requires
-    after-requires
-    with-deadline-requires
-    moved-requires
-    returns
-    to-if-cal-requires
-    returns-2
-    idle-requires
-    returns-3)
+    (λ c. search needs) (λ c κs. search needs) (λ c κs. search needs) (λ c κs. search needs) (λ c κs. search needs)
+    returns (λ c κs. search needs) returns-2 (λ c κs. search needs) returns-3)

@@ -12,20 +12,8 @@ use borrow.Author.Needs.{needs}
 use Rattle.avr_steps.proofs.AvrState.wait_factory_cal.Statement.{statement}
 use Rattle.avr_steps.proofs.AvrState.wait_factory_cal.Tie as tie
 
-enum-told : tie.Need-enum-told
-enum-told c = search needs
-
-from-slice-requires : tie.Need-from-slice-requires
-from-slice-requires c κs = search needs
-
-to-if-cal-requires : tie.Need-to-if-cal-requires
-to-if-cal-requires c κs = search needs
-
 returns : tie.Need-returns
 returns c = c .to-if-cal .ensures ∙ rw (c .before .before .before .enum-told .given .1, c .before .from-slice .ensures)
-
-idle-requires : tie.Need-idle-requires
-idle-requires c κs = search needs
 
 returns-2 : tie.Need-returns-2
 returns-2 c = let a = c .before .before .before .args in
@@ -34,4 +22,5 @@ returns-2 c = let a = c .before .before .before .args in
 pub wait-factory-cal-spec : {M : Type 1} → statement M
 wait-factory-cal-spec =
     tie.close
-    (tie.spec enum-told from-slice-requires to-if-cal-requires returns idle-requires returns-2)
+    (tie.spec
+    (λ c. search needs) (λ c κs. search needs) (λ c κs. search needs) returns (λ c κs. search needs) returns-2)

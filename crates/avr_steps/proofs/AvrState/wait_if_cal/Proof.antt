@@ -12,20 +12,8 @@ use borrow.Author.Needs.{needs}
 use Rattle.avr_steps.proofs.AvrState.wait_if_cal.Statement.{statement}
 use Rattle.avr_steps.proofs.AvrState.wait_if_cal.Tie as tie
 
-enum-told : tie.Need-enum-told
-enum-told c = search needs
-
-from-slice-requires : tie.Need-from-slice-requires
-from-slice-requires c κs = search needs
-
-after-if-cal-requires : tie.Need-after-if-cal-requires
-after-if-cal-requires c κs = search needs
-
 returns : tie.Need-returns
 returns c = c .after-if-cal .ensures ∙ rw (c .before .before .before .enum-told .given .1, c .before .from-slice .ensures, no-wait-after (c .before .before .before .before .before .before .args .self .model))
-
-idle-requires : tie.Need-idle-requires
-idle-requires c κs = search needs
 
 returns-2 : tie.Need-returns-2
 returns-2 c = let a = c .before .before .before .args in
@@ -34,4 +22,5 @@ returns-2 c = let a = c .before .before .before .args in
 pub wait-if-cal-spec : {M : Type 1} → statement M
 wait-if-cal-spec =
     tie.close
-    (tie.spec enum-told from-slice-requires after-if-cal-requires returns idle-requires returns-2)
+    (tie.spec
+    (λ c. search needs) (λ c κs. search needs) (λ c κs. search needs) returns (λ c κs. search needs) returns-2)

@@ -11,21 +11,15 @@ use borrow.Author.Needs.{needs}
 use Rattle.avr_steps.proofs.AvrState.wait_param.Statement.{statement}
 use Rattle.avr_steps.proofs.AvrState.wait_param.Tie as tie
 
-enum-told : tie.Need-enum-told
-enum-told c = search needs
-
-moved-requires : tie.Need-moved-requires
-moved-requires c κs = search needs
-
 returns : tie.Need-returns
 returns c = c .moved .ensures ∙ rw (c .before .enum-told .given .1)
-
-idle-requires : tie.Need-idle-requires
-idle-requires c κs = search needs
 
 returns-2 : tie.Need-returns-2
 returns-2 c = let a = c .before .before .args in
     c .idle .ensures ∙ idles (paramRow (λ e. request (a .step) (a .wall))) (a .step) past (a .self) (sent 0 (a .message) [] [] [] 0 0) (other 8 (a .message) tt (c .before .match .keys2))
 
 pub wait-param-spec : {M : Type 1} → statement M
-wait-param-spec = tie.close (tie.spec enum-told moved-requires returns idle-requires returns-2)
+wait-param-spec =
+    tie.close
+    (tie.spec
+    (λ c. search needs) (λ c κs. search needs) returns (λ c κs. search needs) returns-2)

@@ -12,17 +12,8 @@ use borrow.Author.Needs.{needs}
 use Rattle.avr_steps.proofs.AvrState.wait_time_sync.Statement.{statement}
 use Rattle.avr_steps.proofs.AvrState.wait_time_sync.Tie as tie
 
-enum-told : tie.Need-enum-told
-enum-told c = search needs
-
-moved-requires : tie.Need-moved-requires
-moved-requires c κs = search needs
-
 returns : tie.Need-returns
 returns c = c .moved .ensures ∙ rw (c .before .enum-told .given .1)
-
-idle-requires : tie.Need-idle-requires
-idle-requires c κs = search needs
 
 returns-2 : tie.Need-returns-2
 returns-2 c = let a = c .before .before .args in
@@ -30,4 +21,6 @@ returns-2 c = let a = c .before .before .args in
 
 pub wait-time-sync-spec : {M : Type 1} → statement M
 wait-time-sync-spec =
-    tie.close (tie.spec enum-told moved-requires returns idle-requires returns-2)
+    tie.close
+    (tie.spec
+    (λ c. search needs) (λ c κs. search needs) returns (λ c κs. search needs) returns-2)

@@ -28,9 +28,6 @@ slice-aggregate-from-dev-info : tie.Need-slice-aggregate-from-dev-info
 slice-aggregate-from-dev-info c = let full = filled (c .before .before .before .args .payload .bytes) (c .before .before .before .good .0 .1 .1 .0 .1 .0 .1) in
     sym (length-take-le (c .before .if1 .n) (c .before .before .before .args .payload .bytes) (⊎-elim (λ w. omega arith) (λ w. omega arith) (c .before .if1 .came)))
 
-from-dev-info-requires : tie.Need-from-dev-info-requires
-from-dev-info-requires c κs = search needs
-
 returns : tie.Need-returns
 returns c = let bytes = c .before .before .before .before .args .payload .bytes in
     let full = filled bytes (c .before .before .before .before .good .0 .1 .1 .0 .1 .0 .1) in
@@ -40,7 +37,4 @@ pub of-stored-spec : {M : Type 1} → statement M
 of-stored-spec =
     tie.close
     (tie.spec
-    array-share-prefix-bytes
-    slice-aggregate-from-dev-info
-    from-dev-info-requires
-    returns)
+    array-share-prefix-bytes slice-aggregate-from-dev-info (λ c κs. search needs) returns)

@@ -9,36 +9,6 @@ use borrow.Author.Needs.{needs}
 use Rattle.disarm.proofs.DisarmSequencer.advance.Statement.{statement}
 use Rattle.disarm.proofs.DisarmSequencer.advance.Tie as tie
 
-enum-told : tie.Need-enum-told
-enum-told c = search needs
-
-wait-ack-requires : tie.Need-wait-ack-requires
-wait-ack-requires c κs = search needs
-
-enum-told-2 : tie.Need-enum-told-2
-enum-told-2 c = search needs
-
-slice-aggregate-wait-sign : tie.Need-slice-aggregate-wait-sign
-slice-aggregate-wait-sign c = search needs
-
-wait-sign-requires : tie.Need-wait-sign-requires
-wait-sign-requires c κs = search needs
-
-enum-told-3 : tie.Need-enum-told-3
-enum-told-3 c = search needs
-
-slice-aggregate-wait-sign-2 : tie.Need-slice-aggregate-wait-sign-2
-slice-aggregate-wait-sign-2 c = search needs
-
-wait-sign-requires-2 : tie.Need-wait-sign-requires-2
-wait-sign-requires-2 c κs = search needs
-
-enum-told-4 : tie.Need-enum-told-4
-enum-told-4 c = search needs
-
-idle-requires : tie.Need-idle-requires
-idle-requires c κs = search needs
-
 returns : tie.Need-returns
 returns c = let a = c .before .before .before .before .args in
     let e = fed (plain (a .src) (a .message) (now (a .text))) 0 in
@@ -63,17 +33,6 @@ pub advance-spec : {M : Type 1} → statement M
 advance-spec =
     tie.close
     (tie.spec
-    enum-told
-    wait-ack-requires
-    enum-told-2
-    slice-aggregate-wait-sign
-    wait-sign-requires
-    enum-told-3
-    slice-aggregate-wait-sign-2
-    wait-sign-requires-2
-    enum-told-4
-    idle-requires
-    returns
-    returns-2
-    returns-3
-    returns-4)
+    (λ c. search needs) (λ c κs. search needs) (λ c. search needs) (λ c. search needs) (λ c κs. search needs)
+    (λ c. search needs) (λ c. search needs) (λ c κs. search needs) (λ c. search needs) (λ c κs. search needs) returns
+    returns-2 returns-3 returns-4)

@@ -4,11 +4,8 @@ use borrow.Author.Needs.{needs}
 use Rattle.disarm.proofs.DisarmSequencer.at.Statement.{statement}
 use Rattle.disarm.proofs.DisarmSequencer.at.Tie as tie
 
-none-requires : tie.Need-none-requires
-none-requires c κs = search needs
-
 returns : tie.Need-returns
 returns c = rw (c .none .ensures)
 
 pub at-spec : {M : Type 1} → statement M
-at-spec = tie.close (tie.spec none-requires returns)
+at-spec = tie.close (tie.spec (λ c κs. search needs) returns)

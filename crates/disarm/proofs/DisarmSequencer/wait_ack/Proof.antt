@@ -14,32 +14,17 @@ use borrow.Author.Needs.{needs}
 use Rattle.disarm.proofs.DisarmSequencer.wait_ack.Statement.{statement}
 use Rattle.disarm.proofs.DisarmSequencer.wait_ack.Tie as tie
 
-enum-told : tie.Need-enum-told
-enum-told c = search needs
-
-enum-told-2 : tie.Need-enum-told-2
-enum-told-2 c = search needs
-
-at-requires : tie.Need-at-requires
-at-requires c κs = search needs
-
 returns : tie.Need-returns
 returns c = let a = c .before .before .before .before .before .args in
     let from : a .src ≡ BusAddr.Avr = c .before .before .before .enum-told .given .1 in
     let acks : kind 0x30 configAck (plain (a .src) (a .message) []) ≡ true = rw (from, c .before .enum-told2 .given .1) in
     c .at .ensures ∙ ticks entry1 DisarmStep.WaitModeReset (a .self) (fed (plain (a .src) (a .message) []) 0) acks
 
-idle-requires : tie.Need-idle-requires
-idle-requires c κs = search needs
-
 returns-2 : tie.Need-returns-2
 returns-2 c = let a = c .before .before .before .before .args in
     let from : a .src ≡ BusAddr.Avr = c .before .before .enum-told .given .1 in
     let off : kind 0x30 configAck (plain (a .src) (a .message) []) ≡ false = ap (λ (b : BusAddr). kind 0x30 configAck (plain b (a .message) [])) from ∙ other 3 (a .message) tt (c .before .match2 .keys2) in
     c .idle .ensures ∙ idles entry1 DisarmStep.WaitModeReset (a .self) (fed (plain (a .src) (a .message) []) 0) off
-
-idle-requires-2 : tie.Need-idle-requires-2
-idle-requires-2 c κs = search needs
 
 returns-3 : tie.Need-returns-3
 returns-3 c = let a = c .before .before .args in
@@ -50,11 +35,5 @@ pub wait-ack-spec : {M : Type 1} → statement M
 wait-ack-spec =
     tie.close
     (tie.spec
-    enum-told
-    enum-told-2
-    at-requires
-    returns
-    idle-requires
-    returns-2
-    idle-requires-2
-    returns-3)
+    (λ c. search needs) (λ c. search needs) (λ c κs. search needs) returns (λ c κs. search needs) returns-2
+    (λ c κs. search needs) returns-3)

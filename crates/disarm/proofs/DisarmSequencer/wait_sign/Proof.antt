@@ -6,29 +6,8 @@ use borrow.Author.Needs.{needs}
 use Rattle.disarm.proofs.DisarmSequencer.wait_sign.Statement.{statement}
 use Rattle.disarm.proofs.DisarmSequencer.wait_sign.Tie as tie
 
-enum-told : tie.Need-enum-told
-enum-told c = search needs
-
-at-requires : tie.Need-at-requires
-at-requires c κs = search needs
-
-enum-told-2 : tie.Need-enum-told-2
-enum-told-2 c = search needs
-
-contains-requires : tie.Need-contains-requires
-contains-requires c κs = search needs
-
-at-requires-2 : tie.Need-at-requires-2
-at-requires-2 c κs = search needs
-
 returns : tie.Need-returns
 returns c = c .at2 .ensures ∙ rw (c .before .before .before .enum-told2 .given .1, sym (c .before .before .contains .ensures) ∙ c .before .if1 .taken)
-
-idle-requires : tie.Need-idle-requires
-idle-requires c κs = search needs
-
-idle-requires-2 : tie.Need-idle-requires-2
-idle-requires-2 c κs = search needs
 
 returns-2 : tie.Need-returns-2
 returns-2 c = c .at .ensures ∙ rw (c .before .enum-told .given .1)
@@ -45,14 +24,5 @@ pub wait-sign-spec : {M : Type 1} → statement M
 wait-sign-spec =
     tie.close
     (tie.spec
-    enum-told
-    at-requires
-    enum-told-2
-    contains-requires
-    at-requires-2
-    returns
-    idle-requires
-    idle-requires-2
-    returns-2
-    returns-3
-    returns-4)
+    (λ c. search needs) (λ c κs. search needs) (λ c. search needs) (λ c κs. search needs) (λ c κs. search needs) returns
+    (λ c κs. search needs) (λ c κs. search needs) returns-2 returns-3 returns-4)

@@ -17,21 +17,6 @@ use borrow.Author.Needs.{needs}
 use Rattle.dsp.proofs.DspSequencer.feed.Statement.{statement}
 use Rattle.dsp.proofs.DspSequencer.feed.Tie as tie
 
-accept-feed-requires : tie.Need-accept-feed-requires
-accept-feed-requires c κs = search needs
-
-enum-told : tie.Need-enum-told
-enum-told c = search needs
-
-enum-told-2 : tie.Need-enum-told-2
-enum-told-2 c = search needs
-
-feed-requires : tie.Need-feed-requires
-feed-requires c κs = search needs
-
-accepted-requires : tie.Need-accepted-requires
-accepted-requires c κs = search needs
-
 returns : tie.Need-returns
 returns c = let a = c .before .before .before .before .before .before .before .before .before .before .args in
     let s = a .self in
@@ -43,9 +28,6 @@ returns c = let a = c .before .before .before .before .before .before .before .b
     let from = ap (λ (b : BusAddr). steps.advance (modelIn (s .state .replies .«dev_info»)) (s .state) (fed (e b) t)) (sym (c .before .before .before .enum-told2 .given .1)) in
     c .accepted .ensures ∙ ap (λ (w : DspMoved). accepted w t) (c .before .feed .ensures ∙ from)
     ∙ judged-accepted (feedOutcome (now (a .text)) (now (a .payload)) (s .last) t) (accepted (steps.advance (modelIn (s .state .replies .«dev_info»)) (s .state) (fed (e (a .src)) t)) t) (refused s) o
-
-none-requires : tie.Need-none-requires
-none-requires c κs = search needs
 
 returns-2 : tie.Need-returns-2
 returns-2 c = let a = c .before .before .before .before .before .before .before .args in
@@ -62,12 +44,6 @@ returns-2 c = let a = c .before .before .before .before .before .before .before 
     rw (c .none .ensures)
     (still ∙ judged-accepted (feedOutcome (now (a .text)) (now (a .payload)) (s .last) t) (accepted (steps.advance m (s .state) (fed (e (a .src)) t)) t) (refused s) o)
 
-enum-known-outcome : tie.Need-enum-known-outcome
-enum-known-outcome c = search needs
-
-refuse-requires : tie.Need-refuse-requires
-refuse-requires c κs = search needs
-
 returns-3 : tie.Need-returns-3
 returns-3 c = let a = c .before .before .before .before .before .before .before .args in
     let s = a .self in
@@ -82,14 +58,5 @@ pub feed-spec : {M : Type 1} → statement M
 feed-spec =
     tie.close
     (tie.spec
-    accept-feed-requires
-    enum-told
-    enum-told-2
-    feed-requires
-    accepted-requires
-    returns
-    none-requires
-    returns-2
-    enum-known-outcome
-    refuse-requires
-    returns-3)
+    (λ c κs. search needs) (λ c. search needs) (λ c. search needs) (λ c κs. search needs) (λ c κs. search needs) returns
+    (λ c κs. search needs) returns-2 (λ c. search needs) (λ c κs. search needs) returns-3)

@@ -4,14 +4,8 @@ use borrow.Author.Needs.{needs}
 use Rattle.dsp.proofs.DspSequencer.new.Statement.{statement}
 use Rattle.dsp.proofs.DspSequencer.new.Tie as tie
 
-send-requires : tie.Need-send-requires
-send-requires c κs = search needs
-
-new-requires : tie.Need-new-requires
-new-requires c κs = search needs
-
 returns : tie.Need-returns
 returns c = rw (c .new .ensures, c .before .send .ensures)
 
 pub new-spec : {M : Type 1} → statement M
-new-spec = tie.close (tie.spec send-requires new-requires returns)
+new-spec = tie.close (tie.spec (λ c κs. search needs) (λ c κs. search needs) returns)

@@ -4,11 +4,8 @@ use borrow.Author.Needs.{needs}
 use Rattle.dsp.proofs.DspSequencer.take_refused.Statement.{statement}
 use Rattle.dsp.proofs.DspSequencer.take_refused.Tie as tie
 
-none-requires : tie.Need-none-requires
-none-requires c κs = search needs
-
 returns : tie.Need-returns
 returns c = rw (c .none .ensures)
 
 pub take-refused-spec : {M : Type 1} → statement M
-take-refused-spec = tie.close (tie.spec none-requires returns)
+take-refused-spec = tie.close (tie.spec (λ c κs. search needs) returns)

@@ -13,24 +13,12 @@ use borrow.Author.Needs.{needs}
 use Rattle.dsp_steps.proofs.DspState.check.Statement.{statement}
 use Rattle.dsp_steps.proofs.DspState.check.Tie as tie
 
-reached-requires : tie.Need-reached-requires
-reached-requires c κs = search needs
-
-idle-requires : tie.Need-idle-requires
-idle-requires c κs = search needs
-
 returns : tie.Need-returns
 returns c = let s = c .before .before .before .before .args .self in
     let t = c .before .before .before .before .args .now in
     let m = modelIn (s .replies .«dev_info») in
     let off : reached (s .deadline) t ≡ false = sym (c .before .before .reached .ensures) ∙ not-true _ (c .before .if1 .taken) in
     c .idle .ensures ∙ idles (row m (s .step)) (next m (s .step)) (row m (next m (s .step))) s (checked t) (unreached (row m (s .step) .wait) (s .deadline) t off)
-
-enum-told : tie.Need-enum-told
-enum-told c = search needs
-
-waited-requires : tie.Need-waited-requires
-waited-requires c κs = search needs
 
 returns-2 : tie.Need-returns-2
 returns-2 c = let s = c .before .before .before .before .before .before .args .self in
@@ -40,12 +28,6 @@ returns-2 c = let s = c .before .before .before .before .before .before .args .s
     c .waited .ensures ∙ ticks entry2 DspStep.WaitDevInfo entry3 s (checked t) on
     ∙ at-step m s (checked t) DspStep.WaitDspQuery (c .before .enum-told .given .1)
 
-enum-told-2 : tie.Need-enum-told-2
-enum-told-2 c = search needs
-
-waited-requires-2 : tie.Need-waited-requires-2
-waited-requires-2 c κs = search needs
-
 returns-3 : tie.Need-returns-3
 returns-3 c = let s = c .before .before .before .before .before .before .before .args .self in
     let t = c .before .before .before .before .before .before .before .args .now in
@@ -53,9 +35,6 @@ returns-3 c = let s = c .before .before .before .before .before .before .before 
     let on : reached (s .deadline) t ≡ true = sym (c .before .before .before .before .before .reached .ensures) ∙ not-false _ (c .before .before .before .before .if1 .left) in
     c .waited2 .ensures ∙ ticks entry8 DspStep.Done past s (checked t) on
     ∙ at-step m s (checked t) DspStep.WaitPowerMode (c .before .before .enum-told2 .given .1)
-
-idle-requires-2 : tie.Need-idle-requires-2
-idle-requires-2 c κs = search needs
 
 returns-4 : tie.Need-returns-4
 returns-4 c = let s = c .before .before .before .before .before .args .self in
@@ -67,14 +46,5 @@ pub check-spec : {M : Type 1} → statement M
 check-spec =
     tie.close
     (tie.spec
-    reached-requires
-    idle-requires
-    returns
-    enum-told
-    waited-requires
-    returns-2
-    enum-told-2
-    waited-requires-2
-    returns-3
-    idle-requires-2
-    returns-4)
+    (λ c κs. search needs) (λ c κs. search needs) returns (λ c. search needs) (λ c κs. search needs) returns-2
+    (λ c. search needs) (λ c κs. search needs) returns-3 (λ c κs. search needs) returns-4)

@@ -18,34 +18,13 @@ use Rattle.dsp_steps.proofs.DspState.wait_config.Tie as tie
 power-mode-of : {m n : DeviceModel} {a b : Bool} → n ≡ m → a ≡ hasPowerMode n → a ≡ b → hasPowerMode m ≡ b
 power-mode-of p q r = ap hasPowerMode (sym p) ∙ sym q ∙ r
 
-enum-told : tie.Need-enum-told
-enum-told c = search needs
-
-from-stored-requires : tie.Need-from-stored-requires
-from-stored-requires c κs = search needs
-
-has-power-mode-requires : tie.Need-has-power-mode-requires
-has-power-mode-requires c κs = search needs
-
-after-requires : tie.Need-after-requires
-after-requires c κs = search needs
-
-moved-requires : tie.Need-moved-requires
-moved-requires c κs = search needs
-
 returns : tie.Need-returns
 returns c = let on = power-mode-of (c .before .before .before .before .from-stored .ensures) (c .before .before .before .has-power-mode .ensures) (c .before .before .if1 .taken) in
     c .moved .ensures ∙ rw (c .before .before .before .before .before .before .enum-told .given .1, on, c .before .after .ensures)
 
-moved-requires-2 : tie.Need-moved-requires-2
-moved-requires-2 c κs = search needs
-
 returns-2 : tie.Need-returns-2
 returns-2 c = let off = power-mode-of (c .before .before .before .from-stored .ensures) (c .before .before .has-power-mode .ensures) (c .before .if1 .left) in
     c .moved2 .ensures ∙ rw (c .before .before .before .before .before .enum-told .given .1, off)
-
-idle-requires : tie.Need-idle-requires
-idle-requires c κs = search needs
 
 returns-3 : tie.Need-returns-3
 returns-3 c = let a = c .before .before .args in
@@ -56,13 +35,5 @@ pub wait-config-spec : {M : Type 1} → statement M
 wait-config-spec =
     tie.close
     (tie.spec
-    enum-told
-    from-stored-requires
-    has-power-mode-requires
-    after-requires
-    moved-requires
-    returns
-    moved-requires-2
-    returns-2
-    idle-requires
-    returns-3)
+    (λ c. search needs) (λ c κs. search needs) (λ c κs. search needs) (λ c κs. search needs) (λ c κs. search needs)
+    returns (λ c κs. search needs) returns-2 (λ c κs. search needs) returns-3)

@@ -13,26 +13,11 @@ use borrow.Author.Needs.{needs}
 use Rattle.dsp_steps.proofs.DspState.wait_dsp_query.Statement.{statement}
 use Rattle.dsp_steps.proofs.DspState.wait_dsp_query.Tie as tie
 
-enum-known-message : tie.Need-enum-known-message
-enum-known-message c = search needs
-
-waited-requires : tie.Need-waited-requires
-waited-requires c κs = search needs
-
 returns : tie.Need-returns
 returns c = c .waited .ensures ∙ rw (c .before .before .before .before .message .given .1, eq-eqb _ _ (c .before .if1 .taken))
 
-enum-known-message-2 : tie.Need-enum-known-message-2
-enum-known-message-2 c = search needs
-
-waited-requires-2 : tie.Need-waited-requires-2
-waited-requires-2 c κs = search needs
-
 returns-2 : tie.Need-returns-2
 returns-2 c = c .waited2 .ensures ∙ rw (c .before .before .before .message2 .given .1)
-
-idle-requires : tie.Need-idle-requires
-idle-requires c κs = search needs
 
 returns-3 : tie.Need-returns-3
 returns-3 c = let a = c .before .before .args in
@@ -47,11 +32,5 @@ pub wait-dsp-query-spec : {M : Type 1} → statement M
 wait-dsp-query-spec =
     tie.close
     (tie.spec
-    enum-known-message
-    waited-requires
-    returns
-    enum-known-message-2
-    waited-requires-2
-    returns-2
-    idle-requires
-    returns-3)
+    (λ c. search needs) (λ c κs. search needs) returns (λ c. search needs) (λ c κs. search needs) returns-2
+    (λ c κs. search needs) returns-3)

@@ -12,30 +12,12 @@ use borrow.Author.Needs.{needs}
 use Rattle.dsp_steps.proofs.DspState.wait_prod_info.Statement.{statement}
 use Rattle.dsp_steps.proofs.DspState.wait_prod_info.Tie as tie
 
-enum-told : tie.Need-enum-told
-enum-told c = search needs
-
-from-slice-requires : tie.Need-from-slice-requires
-from-slice-requires c κs = search needs
-
-mul-prod-info : tie.Need-mul-prod-info
-mul-prod-info c = search needs
-
-element-set-from-prod-info : tie.Need-element-set-from-prod-info
-element-set-from-prod-info c = search needs
-
-moved-requires : tie.Need-moved-requires
-moved-requires c κs = search needs
-
 returns : tie.Need-returns
 returns c = let a = c .before .before .before .before .before .before .args in
     let e = sent 0 (a .message) [] (now (a .text)) [] 0 in
     c .moved .ensures
     ∙ rw (c .before .from-slice .ensures, ← stores-prod-info (a .i) e (a .self .replies) (c .before .before .before .before .before .before .pre))
     (ticks (prodInfo (a .i) (request (a .step))) (a .step) past (a .self) e (rw (c .before .before .before .enum-told .given .1)))
-
-idle-requires : tie.Need-idle-requires
-idle-requires c κs = search needs
 
 returns-2 : tie.Need-returns-2
 returns-2 c = let a = c .before .before .before .args in
@@ -45,11 +27,5 @@ pub wait-prod-info-spec : {M : Type 1} → statement M
 wait-prod-info-spec =
     tie.close
     (tie.spec
-    enum-told
-    from-slice-requires
-    mul-prod-info
-    element-set-from-prod-info
-    moved-requires
-    returns
-    idle-requires
-    returns-2)
+    (λ c. search needs) (λ c κs. search needs) (λ c. search needs) (λ c. search needs) (λ c κs. search needs) returns
+    (λ c κs. search needs) returns-2)

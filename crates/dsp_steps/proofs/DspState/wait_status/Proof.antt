@@ -12,23 +12,8 @@ use borrow.Author.Needs.{needs}
 use Rattle.dsp_steps.proofs.DspState.wait_status.Statement.{statement}
 use Rattle.dsp_steps.proofs.DspState.wait_status.Tie as tie
 
-enum-known-message : tie.Need-enum-known-message
-enum-known-message c = search needs
-
-status-reply-requires : tie.Need-status-reply-requires
-status-reply-requires c κs = search needs
-
-after-requires : tie.Need-after-requires
-after-requires c κs = search needs
-
-moved-requires : tie.Need-moved-requires
-moved-requires c κs = search needs
-
 returns : tie.Need-returns
 returns c = c .moved .ensures ∙ rw (c .before .before .before .before .before .message .given .1, c .before .after .ensures, c .before .before .status-reply .ensures)
-
-idle-requires : tie.Need-idle-requires
-idle-requires c κs = search needs
 
 returns-2 : tie.Need-returns-2
 returns-2 c = let a = c .before .before .before .args in
@@ -38,10 +23,5 @@ pub wait-status-spec : {M : Type 1} → statement M
 wait-status-spec =
     tie.close
     (tie.spec
-    enum-known-message
-    status-reply-requires
-    after-requires
-    moved-requires
-    returns
-    idle-requires
-    returns-2)
+    (λ c. search needs) (λ c κs. search needs) (λ c κs. search needs) (λ c κs. search needs) returns
+    (λ c κs. search needs) returns-2)

@@ -3,17 +3,9 @@
 use borrow.Author.Needs.{needs}
 use Rattle.host.proofs.c_arm.wigtalom_arm_new.Statement.{statement}
 use Rattle.host.proofs.c_arm.wigtalom_arm_new.Tie as tie
-use Rattle.arm.proofs.ArmSequencer.new.Reads as new-reads
-use Rattle.host.proofs.c_arm.started_out.Reads as started-out-reads
-
-new-requires : tie.Need-new-requires
-new-requires c κs = search needs
-
-started-out-requires : tie.Need-started-out-requires
-started-out-requires c κs = search needs
 
 returns : tie.Need-returns
 returns c = rw (c .started-out .ensures, c .before .new .ensures)
 
 pub wigtalom-arm-new-spec : {M : Type 1} → statement M
-wigtalom-arm-new-spec = tie.close (tie.spec new-requires started-out-requires returns)
+wigtalom-arm-new-spec = tie.close (tie.spec (λ c κs. search needs) (λ c κs. search needs) returns)

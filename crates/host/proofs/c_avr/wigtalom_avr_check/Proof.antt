@@ -8,26 +8,10 @@ use Rattle.abi_avr.specs.declared.SomeAvr.{SomeAvr}
 use borrow.Author.Needs.{needs}
 use Rattle.host.proofs.c_avr.wigtalom_avr_check.Statement.{statement}
 use Rattle.host.proofs.c_avr.wigtalom_avr_check.Tie as tie
-use Rattle.abi_avr.proofs.avr_in.Reads as avr-in-reads
-use Rattle.avr.proofs.AvrSequencer.check_cal_timeout.Reads as check-cal-timeout-reads
-use Rattle.host.proofs.c_avr.declined.Reads as declined-reads
-use Rattle.host.proofs.c_avr.fed_out.Reads as fed-out-reads
-
-avr-in-requires : tie.Need-avr-in-requires
-avr-in-requires c κs = search needs
-
-check-cal-timeout-requires : tie.Need-check-cal-timeout-requires
-check-cal-timeout-requires c κs = search needs
-
-fed-out-requires : tie.Need-fed-out-requires
-fed-out-requires c κs = search needs
 
 returns : tie.Need-returns
 returns c = let a = c .before .before .before .before .before .args in
     c .fed-out .ensures ∙ ap avrFed (c .before .check-cal-timeout .ensures) ∙ one (λ (s : SomeAvr). s .known) (λ s. avrFed (polled (s .seq) (a .now))) (avrDeclined (a .seq)) _ _ (c .before .before .before .before .avr-in .ensures) (c .before .before .before .if1 .taken)
-
-declined-requires : tie.Need-declined-requires
-declined-requires c κs = search needs
 
 returns-2 : tie.Need-returns-2
 returns-2 c = let a = c .before .before .before .args in
@@ -37,9 +21,4 @@ pub wigtalom-avr-check-spec : {M : Type 1} → statement M
 wigtalom-avr-check-spec =
     tie.close
     (tie.spec
-    avr-in-requires
-    check-cal-timeout-requires
-    fed-out-requires
-    returns
-    declined-requires
-    returns-2)
+    (λ c κs. search needs) (λ c κs. search needs) (λ c κs. search needs) returns (λ c κs. search needs) returns-2)

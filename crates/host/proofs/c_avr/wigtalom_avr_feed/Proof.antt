@@ -11,31 +11,11 @@ use Rattle.abi_avr.specs.declared.SomeAvr.{SomeAvr}
 use borrow.Author.Needs.{needs}
 use Rattle.host.proofs.c_avr.wigtalom_avr_feed.Statement.{statement}
 use Rattle.host.proofs.c_avr.wigtalom_avr_feed.Tie as tie
-use Rattle.abi_messages.proofs.envelope_in.Reads as envelope-in-reads
-use Rattle.abi_avr.proofs.avr_in.Reads as avr-in-reads
-use Rattle.avr.proofs.AvrSequencer.feed.Reads as feed-reads
-use Rattle.host.proofs.c_avr.declined.Reads as declined-reads
-use Rattle.host.proofs.c_avr.fed_out.Reads as fed-out-reads
-
-avr-in-requires : tie.Need-avr-in-requires
-avr-in-requires c κs = search needs
-
-envelope-in-requires : tie.Need-envelope-in-requires
-envelope-in-requires c κs = search needs
-
-feed-requires : tie.Need-feed-requires
-feed-requires c κs = search needs
-
-fed-out-requires : tie.Need-fed-out-requires
-fed-out-requires c κs = search needs
 
 returns : tie.Need-returns
 returns c = let a = c .before .before .before .before .before .before .before .before .before .before .before .args in
     c .fed-out .ensures ∙ ap avrFed (c .before .feed .ensures)
     ∙ both (λ (s : SomeAvr). s .known) (λ (v : SomeEnvelope). v .known) (λ s v. avrFed (fedTo (s .seq) (record { envelope = opened v (a .env .«type_id») (a .env .params) (now (a .text)) (now (a .payload)); wall = a .wall }) (a .now))) (avrDeclined (a .seq)) _ _ _ _ (c .before .before .before .before .before .before .before .before .avr-in .ensures) (c .before .before .before .before .before .before .before .envelope-in .ensures) (c .before .before .before .before .if1 .taken)
-
-declined-requires : tie.Need-declined-requires
-declined-requires c κs = search needs
 
 returns-2 : tie.Need-returns-2
 returns-2 c = let a = c .before .before .before .before .before .before .before .before .args in
@@ -46,10 +26,5 @@ pub wigtalom-avr-feed-spec : {M : Type 1} → statement M
 wigtalom-avr-feed-spec =
     tie.close
     (tie.spec
-    avr-in-requires
-    envelope-in-requires
-    feed-requires
-    fed-out-requires
-    returns
-    declined-requires
-    returns-2)
+    (λ c κs. search needs) (λ c κs. search needs) (λ c κs. search needs) (λ c κs. search needs) returns
+    (λ c κs. search needs) returns-2)

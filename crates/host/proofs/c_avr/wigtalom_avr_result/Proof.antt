@@ -10,29 +10,10 @@ use Rattle.host.specs.declared.c_avr.CAvrFinished.{CAvrFinished}
 use borrow.Author.Needs.{needs}
 use Rattle.host.proofs.c_avr.wigtalom_avr_result.Statement.{statement}
 use Rattle.host.proofs.c_avr.wigtalom_avr_result.Tie as tie
-use Rattle.abi_values.proofs.refusal_out.Reads as refusal-out-reads
-use Rattle.abi_avr.proofs.avr_in.Reads as avr-in-reads
-use Rattle.avr.proofs.AvrSequencer.into_result.Reads as into-result-reads
-use Rattle.avr.proofs.AvrSequencer.new.Reads as new-reads
-
-avr-in-requires : tie.Need-avr-in-requires
-avr-in-requires c κs = search needs
-
-into-result-requires : tie.Need-into-result-requires
-into-result-requires c κs = search needs
-
-refusal-out-requires : tie.Need-refusal-out-requires
-refusal-out-requires c κs = search needs
 
 returns : tie.Need-returns
 returns c = rw (c .refusal-out .ensures, c .before .before .into-result .ensures)
     (one {R = CAvrFinished} (λ (s : SomeAvr). s .known) (λ (s : SomeAvr). record { refusal = refusalOut (finished (s .seq) .outcome); sync = finished (s .seq) .sync }) (record { refusal = unknown; sync = finished (begun DeviceModel.Mevo .seq) .sync }) _ _ (c .before .before .before .before .before .avr-in .ensures) (c .before .before .before .before .if1 .taken))
-
-new-requires : tie.Need-new-requires
-new-requires c κs = search needs
-
-into-result-requires-2 : tie.Need-into-result-requires-2
-into-result-requires-2 c κs = search needs
 
 returns-2 : tie.Need-returns-2
 returns-2 c = rw (c .before .into-result2 .ensures, c .before .before .before .new .ensures)
@@ -42,10 +23,5 @@ pub wigtalom-avr-result-spec : {M : Type 1} → statement M
 wigtalom-avr-result-spec =
     tie.close
     (tie.spec
-    avr-in-requires
-    into-result-requires
-    refusal-out-requires
-    returns
-    new-requires
-    into-result-requires-2
-    returns-2)
+    (λ c κs. search needs) (λ c κs. search needs) (λ c κs. search needs) returns (λ c κs. search needs)
+    (λ c κs. search needs) returns-2)

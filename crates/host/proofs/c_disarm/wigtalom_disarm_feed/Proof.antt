@@ -12,31 +12,11 @@ use Rattle.abi_disarm.specs.declared.SomeDisarm.{SomeDisarm}
 use borrow.Author.Needs.{needs}
 use Rattle.host.proofs.c_disarm.wigtalom_disarm_feed.Statement.{statement}
 use Rattle.host.proofs.c_disarm.wigtalom_disarm_feed.Tie as tie
-use Rattle.abi_messages.proofs.envelope_in.Reads as envelope-in-reads
-use Rattle.abi_disarm.proofs.disarm_in.Reads as disarm-in-reads
-use Rattle.disarm.proofs.DisarmSequencer.feed.Reads as feed-reads
-use Rattle.host.proofs.c_disarm.declined.Reads as declined-reads
-use Rattle.host.proofs.c_disarm.fed_out.Reads as fed-out-reads
-
-disarm-in-requires : tie.Need-disarm-in-requires
-disarm-in-requires c κs = search needs
-
-envelope-in-requires : tie.Need-envelope-in-requires
-envelope-in-requires c κs = search needs
-
-feed-requires : tie.Need-feed-requires
-feed-requires c κs = search needs
-
-fed-out-requires : tie.Need-fed-out-requires
-fed-out-requires c κs = search needs
 
 returns : tie.Need-returns
 returns c = let a = c .before .before .before .before .before .before .before .before .before .before .args in
     c .fed-out .ensures ∙ ap disarmFed (c .before .feed .ensures)
     ∙ both (λ (s : SomeDisarm). s .known) (λ (v : SomeEnvelope). v .known) (λ s v. disarmFed (fedTo (s .seq) (opened v (a .env .«type_id») [] (now (a .text)) (now (a .payload))))) (disarmDeclined (a .seq)) _ _ _ _ (c .before .before .before .before .before .before .before .disarm-in .ensures) (c .before .before .before .before .before .before .envelope-in .ensures) (c .before .before .before .if1 .taken)
-
-declined-requires : tie.Need-declined-requires
-declined-requires c κs = search needs
 
 returns-2 : tie.Need-returns-2
 returns-2 c = let a = c .before .before .before .before .before .before .before .before .args in
@@ -47,10 +27,5 @@ pub wigtalom-disarm-feed-spec : {M : Type 1} → statement M
 wigtalom-disarm-feed-spec =
     tie.close
     (tie.spec
-    disarm-in-requires
-    envelope-in-requires
-    feed-requires
-    fed-out-requires
-    returns
-    declined-requires
-    returns-2)
+    (λ c κs. search needs) (λ c κs. search needs) (λ c κs. search needs) (λ c κs. search needs) returns
+    (λ c κs. search needs) returns-2)

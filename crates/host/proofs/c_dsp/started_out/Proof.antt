@@ -3,17 +3,9 @@
 use borrow.Author.Needs.{needs}
 use Rattle.host.proofs.c_dsp.started_out.Statement.{statement}
 use Rattle.host.proofs.c_dsp.started_out.Tie as tie
-use Rattle.abi.proofs.action.action_out.Reads as action-out-reads
-use Rattle.abi_dsp.proofs.dsp_out.Reads as dsp-out-reads
-
-action-out-requires : tie.Need-action-out-requires
-action-out-requires c κs = search needs
-
-dsp-out-requires : tie.Need-dsp-out-requires
-dsp-out-requires c κs = search needs
 
 returns : tie.Need-returns
 returns c = rw (c .dsp-out .ensures, c .before .action-out .ensures)
 
 pub started-out-spec : {M : Type 1} → statement M
-started-out-spec = tie.close (tie.spec action-out-requires dsp-out-requires returns)
+started-out-spec = tie.close (tie.spec (λ c κs. search needs) (λ c κs. search needs) returns)

@@ -11,31 +11,11 @@ use Rattle.abi_dsp.specs.declared.SomeDsp.{SomeDsp}
 use borrow.Author.Needs.{needs}
 use Rattle.host.proofs.c_dsp.wigtalom_dsp_feed.Statement.{statement}
 use Rattle.host.proofs.c_dsp.wigtalom_dsp_feed.Tie as tie
-use Rattle.abi_messages.proofs.envelope_in.Reads as envelope-in-reads
-use Rattle.abi_dsp.proofs.dsp_in.Reads as dsp-in-reads
-use Rattle.dsp.proofs.DspSequencer.feed.Reads as feed-reads
-use Rattle.host.proofs.c_dsp.declined.Reads as declined-reads
-use Rattle.host.proofs.c_dsp.fed_out.Reads as fed-out-reads
-
-dsp-in-requires : tie.Need-dsp-in-requires
-dsp-in-requires c κs = search needs
-
-envelope-in-requires : tie.Need-envelope-in-requires
-envelope-in-requires c κs = search needs
-
-feed-requires : tie.Need-feed-requires
-feed-requires c κs = search needs
-
-fed-out-requires : tie.Need-fed-out-requires
-fed-out-requires c κs = search needs
 
 returns : tie.Need-returns
 returns c = let a = c .before .before .before .before .before .before .before .before .before .before .before .args in
     c .fed-out .ensures ∙ ap dspFed (c .before .feed .ensures)
     ∙ both (λ (s : SomeDsp). s .known) (λ (v : SomeEnvelope). v .known) (λ s v. dspFed (fedTo (s .seq) (opened v (a .env .«type_id») (a .env .params) (now (a .text)) (now (a .payload))) (a .now))) (dspDeclined (a .seq)) _ _ _ _ (c .before .before .before .before .before .before .before .before .dsp-in .ensures) (c .before .before .before .before .before .before .before .envelope-in .ensures) (c .before .before .before .before .if1 .taken)
-
-declined-requires : tie.Need-declined-requires
-declined-requires c κs = search needs
 
 returns-2 : tie.Need-returns-2
 returns-2 c = let a = c .before .before .before .before .before .before .before .before .args in
@@ -46,10 +26,5 @@ pub wigtalom-dsp-feed-spec : {M : Type 1} → statement M
 wigtalom-dsp-feed-spec =
     tie.close
     (tie.spec
-    dsp-in-requires
-    envelope-in-requires
-    feed-requires
-    fed-out-requires
-    returns
-    declined-requires
-    returns-2)
+    (λ c κs. search needs) (λ c κs. search needs) (λ c κs. search needs) (λ c κs. search needs) returns
+    (λ c κs. search needs) returns-2)

@@ -9,29 +9,10 @@ use Rattle.host.specs.declared.c_pi.CPiFinished.{CPiFinished}
 use borrow.Author.Needs.{needs}
 use Rattle.host.proofs.c_pi.wigtalom_pi_result.Statement.{statement}
 use Rattle.host.proofs.c_pi.wigtalom_pi_result.Tie as tie
-use Rattle.abi_values.proofs.refusal_out.Reads as refusal-out-reads
-use Rattle.abi_pi.proofs.pi_in.Reads as pi-in-reads
-use Rattle.pi.proofs.PiSequencer.into_result.Reads as into-result-reads
-use Rattle.pi.proofs.PiSequencer.new.Reads as new-reads
-
-pi-in-requires : tie.Need-pi-in-requires
-pi-in-requires c κs = search needs
-
-into-result-requires : tie.Need-into-result-requires
-into-result-requires c κs = search needs
-
-refusal-out-requires : tie.Need-refusal-out-requires
-refusal-out-requires c κs = search needs
 
 returns : tie.Need-returns
 returns c = rw (c .refusal-out .ensures, c .before .before .into-result .ensures)
     (one {R = CPiFinished} (λ (s : SomePi). s .known) (λ (s : SomePi). record { refusal = refusalOut (finished (s .seq) .outcome); sync = finished (s .seq) .sync }) (record { refusal = unknown; sync = finished (begun .seq) .sync }) _ _ (c .before .before .before .before .before .pi-in .ensures) (c .before .before .before .before .if1 .taken))
-
-new-requires : tie.Need-new-requires
-new-requires c κs = search needs
-
-into-result-requires-2 : tie.Need-into-result-requires-2
-into-result-requires-2 c κs = search needs
 
 returns-2 : tie.Need-returns-2
 returns-2 c = rw (c .before .into-result2 .ensures, c .before .before .before .new .ensures)
@@ -41,10 +22,5 @@ pub wigtalom-pi-result-spec : {M : Type 1} → statement M
 wigtalom-pi-result-spec =
     tie.close
     (tie.spec
-    pi-in-requires
-    into-result-requires
-    refusal-out-requires
-    returns
-    new-requires
-    into-result-requires-2
-    returns-2)
+    (λ c κs. search needs) (λ c κs. search needs) (λ c κs. search needs) returns (λ c κs. search needs)
+    (λ c κs. search needs) returns-2)

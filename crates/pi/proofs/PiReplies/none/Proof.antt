@@ -4,14 +4,8 @@ use borrow.Author.Needs.{needs}
 use Rattle.pi.proofs.PiReplies.none.Statement.{statement}
 use Rattle.pi.proofs.PiReplies.none.Tie as tie
 
-empty-requires : tie.Need-empty-requires
-empty-requires c κs = search needs
-
-none-requires : tie.Need-none-requires
-none-requires c κs = search needs
-
 returns : tie.Need-returns
 returns c = rw (c .none .ensures, c .before .empty .ensures)
 
 pub none-spec : {M : Type 1} → statement M
-none-spec = tie.close (tie.spec empty-requires none-requires returns)
+none-spec = tie.close (tie.spec (λ c κs. search needs) (λ c κs. search needs) returns)

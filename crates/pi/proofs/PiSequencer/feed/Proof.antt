@@ -15,18 +15,6 @@ use borrow.Author.Needs.{needs}
 use Rattle.pi.proofs.PiSequencer.feed.Statement.{statement}
 use Rattle.pi.proofs.PiSequencer.feed.Tie as tie
 
-accept-bytes-requires : tie.Need-accept-bytes-requires
-accept-bytes-requires c κs = search needs
-
-enum-told : tie.Need-enum-told
-enum-told c = search needs
-
-enum-told-2 : tie.Need-enum-told-2
-enum-told-2 c = search needs
-
-feed-pi-requires : tie.Need-feed-pi-requires
-feed-pi-requires c κs = search needs
-
 returns : tie.Need-returns
 returns c = let a = c .before .before .before .before .before .before .before .before .args in
     let s = a .self in
@@ -35,9 +23,6 @@ returns c = let a = c .before .before .before .before .before .before .before .b
     in
     let o = sym (c .before .before .before .before .before .accept-bytes .ensures) ∙ c .before .before .before .enum-told .given .1 in
     c .feed-pi .ensures ∙ ap (λ (b : BusAddr). advance s (fed (e b) 0)) (sym (c .before .enum-told2 .given .1)) ∙ judged-accepted (bytesOutcome (now (a .text)) (now (a .payload))) (advance s (fed (e (a .src)) 0)) (refused s) o
-
-idle-requires : tie.Need-idle-requires
-idle-requires c κs = search needs
 
 returns-2 : tie.Need-returns-2
 returns-2 c = let a = c .before .before .before .before .before .before .before .args in
@@ -49,12 +34,6 @@ returns-2 c = let a = c .before .before .before .before .before .before .before 
     let o = sym (c .before .before .before .before .accept-bytes .ensures) ∙ c .before .before .enum-told .given .1 in
     let none = foreign k (e (a .src)) (elsewhere BusAddr.Pi (a .src) (c .before .match2 .keys2)) in
     c .idle .ensures ∙ idles (row k) (next k) (row (next k)) s (fed (e (a .src)) 0) none ∙ judged-accepted (bytesOutcome (now (a .text)) (now (a .payload))) (advance s (fed (e (a .src)) 0)) (refused s) o
-
-enum-known-outcome : tie.Need-enum-known-outcome
-enum-known-outcome c = search needs
-
-refuse-requires : tie.Need-refuse-requires
-refuse-requires c κs = search needs
 
 returns-3 : tie.Need-returns-3
 returns-3 c = let a = c .before .before .before .before .before .before .before .args in
@@ -69,13 +48,5 @@ pub feed-spec : {M : Type 1} → statement M
 feed-spec =
     tie.close
     (tie.spec
-    accept-bytes-requires
-    enum-told
-    enum-told-2
-    feed-pi-requires
-    returns
-    idle-requires
-    returns-2
-    enum-known-outcome
-    refuse-requires
-    returns-3)
+    (λ c κs. search needs) (λ c. search needs) (λ c. search needs) (λ c κs. search needs) returns (λ c κs. search needs)
+    returns-2 (λ c. search needs) (λ c κs. search needs) returns-3)

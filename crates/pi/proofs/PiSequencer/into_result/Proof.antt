@@ -7,24 +7,14 @@ use borrow.Author.Needs.{needs}
 use Rattle.pi.proofs.PiSequencer.into_result.Statement.{statement}
 use Rattle.pi.proofs.PiSequencer.into_result.Tie as tie
 
-enum-told : tie.Need-enum-told
-enum-told c = search needs
-
-sync-requires : tie.Need-sync-requires
-sync-requires c κs = search needs
-
 returns : tie.Need-returns
 returns c = rw (ap isDone (c .before .enum-told .given .1), c .sync .ensures)
-
-none-requires : tie.Need-none-requires
-none-requires c κs = search needs
-
-sync-requires-2 : tie.Need-sync-requires-2
-sync-requires-2 c κs = search needs
 
 returns-2 : tie.Need-returns-2
 returns-2 c = rw (c .sync2 .ensures, c .before .none .ensures, not-done (c .before .before .before .args .self .step) (c .before .before .match .keys2))
 
 pub into-result-spec : {M : Type 1} → statement M
 into-result-spec =
-    tie.close (tie.spec enum-told sync-requires returns none-requires sync-requires-2 returns-2)
+    tie.close
+    (tie.spec
+    (λ c. search needs) (λ c κs. search needs) returns (λ c κs. search needs) (λ c κs. search needs) returns-2)

@@ -12,17 +12,8 @@ use borrow.Author.Needs.{needs}
 use Rattle.pi.proofs.PiSequencer.wait_cam_config2.Statement.{statement}
 use Rattle.pi.proofs.PiSequencer.wait_cam_config2.Tie as tie
 
-enum-known-message : tie.Need-enum-known-message
-enum-known-message c = search needs
-
-moved-requires : tie.Need-moved-requires
-moved-requires c κs = search needs
-
 returns : tie.Need-returns
 returns c = c .moved .ensures ∙ rw (c .before .before .before .message .given .1)
-
-idle-requires : tie.Need-idle-requires
-idle-requires c κs = search needs
 
 returns-2 : tie.Need-returns-2
 returns-2 c = let a = c .before .before .args in
@@ -30,4 +21,6 @@ returns-2 c = let a = c .before .before .args in
 
 pub wait-cam-config2-spec : {M : Type 1} → statement M
 wait-cam-config2-spec =
-    tie.close (tie.spec enum-known-message moved-requires returns idle-requires returns-2)
+    tie.close
+    (tie.spec
+    (λ c. search needs) (λ c κs. search needs) returns (λ c κs. search needs) returns-2)

@@ -13,23 +13,8 @@ use borrow.Author.Needs.{needs}
 use Rattle.pi.proofs.PiSequencer.wait_net_config_pw.Statement.{statement}
 use Rattle.pi.proofs.PiSequencer.wait_net_config_pw.Tie as tie
 
-enum-told : tie.Need-enum-told
-enum-told c = search needs
-
-before-zero-requires : tie.Need-before-zero-requires
-before-zero-requires c κs = search needs
-
-after-zero-requires : tie.Need-after-zero-requires
-after-zero-requires c κs = search needs
-
-moved-requires : tie.Need-moved-requires
-moved-requires c κs = search needs
-
 returns : tie.Need-returns
 returns c = c .moved .ensures ∙ rw (c .before .before .before .before .enum-told .given .1, c .before .after-zero .ensures, c .before .before .before-zero .ensures)
-
-idle-requires : tie.Need-idle-requires
-idle-requires c κs = search needs
 
 returns-2 : tie.Need-returns-2
 returns-2 c = let a = c .before .before .before .args in
@@ -39,10 +24,5 @@ pub wait-net-config-pw-spec : {M : Type 1} → statement M
 wait-net-config-pw-spec =
     tie.close
     (tie.spec
-    enum-told
-    before-zero-requires
-    after-zero-requires
-    moved-requires
-    returns
-    idle-requires
-    returns-2)
+    (λ c. search needs) (λ c κs. search needs) (λ c κs. search needs) (λ c κs. search needs) returns
+    (λ c κs. search needs) returns-2)

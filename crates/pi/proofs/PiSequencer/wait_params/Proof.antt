@@ -12,32 +12,17 @@ use borrow.Author.Needs.{needs}
 use Rattle.pi.proofs.PiSequencer.wait_params.Statement.{statement}
 use Rattle.pi.proofs.PiSequencer.wait_params.Tie as tie
 
-enum-told : tie.Need-enum-told
-enum-told c = search needs
-
-add-t5 : tie.Need-add-t5
-add-t5 c = search needs
-
-moved-requires : tie.Need-moved-requires
-moved-requires c κs = search needs
-
 returns : tie.Need-returns
 returns c = let a = c .before .before .before .before .args in
     let e = sent 0 (a .message) [] [] in
     c .moved .ensures ∙ goes-on (a .idx) (a .self) e (c .before .if1 .taken)
     ∙ ticks (paramRow (a .idx)) (next (PiStep.WaitParams (a .idx))) past (a .self) e (rw (c .before .before .enum-told .given .1))
 
-moved-requires-2 : tie.Need-moved-requires-2
-moved-requires-2 c κs = search needs
-
 returns-2 : tie.Need-returns-2
 returns-2 c = let a = c .before .before .before .before .args in
     let e = sent 0 (a .message) [] [] in
     c .moved2 .ensures ∙ ends (a .idx) (a .self) e (c .before .if1 .left)
     ∙ ticks (paramRow (a .idx)) (next (PiStep.WaitParams (a .idx))) past (a .self) e (rw (c .before .before .enum-told .given .1))
-
-idle-requires : tie.Need-idle-requires
-idle-requires c κs = search needs
 
 returns-3 : tie.Need-returns-3
 returns-3 c = let a = c .before .before .args in
@@ -47,11 +32,5 @@ pub wait-params-spec : {M : Type 1} → statement M
 wait-params-spec =
     tie.close
     (tie.spec
-    enum-told
-    add-t5
-    moved-requires
-    returns
-    moved-requires-2
-    returns-2
-    idle-requires
-    returns-3)
+    (λ c. search needs) (λ c. search needs) (λ c κs. search needs) returns (λ c κs. search needs) returns-2
+    (λ c κs. search needs) returns-3)

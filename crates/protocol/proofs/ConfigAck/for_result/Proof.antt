@@ -5,11 +5,8 @@ use lib.Bits.{and-mask}
 use Rattle.protocol.proofs.ConfigAck.for_result.Statement.{statement}
 use Rattle.protocol.proofs.ConfigAck.for_result.Tie as tie
 
-as-byte-requires : tie.Need-as-byte-requires
-as-byte-requires c κs = search needs
-
 returns : tie.Need-returns
 returns c = rw (← and-mask (c .before .args .type-id) 7, c .as-byte .ensures)
 
 pub for-result-spec : {M : Type 1} → statement M
-for-result-spec = tie.close (tie.spec as-byte-requires returns)
+for-result-spec = tie.close (tie.spec (λ c κs. search needs) returns)

@@ -4,8 +4,5 @@ use borrow.Author.Needs.{needs}
 use Rattle.sequence.proofs.OptionInstant.none.Statement.{statement}
 use Rattle.sequence.proofs.OptionInstant.none.Tie as tie
 
-returns : tie.Need-returns
-returns c = search needs
-
 pub none-spec : {M : Type 1} → statement M
-none-spec = tie.close (tie.spec returns)
+none-spec = tie.close (tie.spec (λ c. search needs))

@@ -8,11 +8,8 @@ use Rattle.sequence.proofs.OptionInstant.or_after.Tie as tie
 returns : tie.Need-returns
 returns c = rw (c .if1 .taken)
 
-after-requires : tie.Need-after-requires
-after-requires c κs = search needs
-
 returns-2 : tie.Need-returns-2
 returns-2 c = c .after .ensures ∙ rw (c .before .if1 .left)
 
 pub or-after-spec : {M : Type 1} → statement M
-or-after-spec = tie.close (tie.spec returns after-requires returns-2)
+or-after-spec = tie.close (tie.spec returns (λ c κs. search needs) returns-2)

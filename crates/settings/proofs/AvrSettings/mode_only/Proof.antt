@@ -4,14 +4,8 @@ use borrow.Author.Needs.{needs}
 use Rattle.settings.proofs.AvrSettings.mode_only.Statement.{statement}
 use Rattle.settings.proofs.AvrSettings.mode_only.Tie as tie
 
-no-param-requires : tie.Need-no-param-requires
-no-param-requires c κs = search needs
-
-no-cal-requires : tie.Need-no-cal-requires
-no-cal-requires c κs = search needs
-
 returns : tie.Need-returns
 returns c = rw (c .no-cal .ensures, c .before .no-param .ensures)
 
 pub mode-only-spec : {M : Type 1} → statement M
-mode-only-spec = tie.close (tie.spec no-param-requires no-cal-requires returns)
+mode-only-spec = tie.close (tie.spec (λ c κs. search needs) (λ c κs. search needs) returns)

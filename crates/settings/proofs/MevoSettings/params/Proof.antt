@@ -7,13 +7,10 @@ use borrow.Author.Needs.{needs}
 use Rattle.settings.proofs.MevoSettings.params.Statement.{statement}
 use Rattle.settings.proofs.MevoSettings.params.Tie as tie
 
-cast-t2 : tie.Need-cast-t2
-cast-t2 c = search needs
-
 returns : tie.Need-returns
 returns c = let b = c .before .args .self .«ball_type» in
     let small : b < 2147483648 = omega (arith, c .struct-known .given) in
     rw (lt-ltb b 2147483648 small)
 
 pub params-spec : {M : Type 1} → statement M
-params-spec = tie.close (tie.spec cast-t2 returns)
+params-spec = tie.close (tie.spec (λ c. search needs) returns)

@@ -15,12 +15,6 @@ use Rattle.device.proofs.model.DeviceModel.from_dev_info.Tie as tie
 by-search : (payload : List ℕ) {found b : Bool} → found ≡ contains xiTag payload → found ≡ b → cond b DeviceModel.Xi DeviceModel.Mevo ≡ modelOf payload
 by-search payload e is = ap (λ x. cond x DeviceModel.Xi DeviceModel.Mevo) (sym is ∙ e)
 
-slice-aggregate-contains : tie.Need-slice-aggregate-contains
-slice-aggregate-contains c = search needs
-
-contains-requires : tie.Need-contains-requires
-contains-requires c κs = search needs
-
 returns : tie.Need-returns
 returns c = by-search (now (c .before .before .before .before .args .payload)) (c .before .contains .ensures) (c .if1 .taken)
 
@@ -28,4 +22,4 @@ returns-2 : tie.Need-returns-2
 returns-2 c = by-search (now (c .before .before .before .before .args .payload)) (c .before .contains .ensures) (c .if1 .left)
 
 pub from-dev-info-spec : {M : Type 1} → statement M
-from-dev-info-spec = tie.close (tie.spec slice-aggregate-contains contains-requires returns returns-2)
+from-dev-info-spec = tie.close (tie.spec (λ c. search needs) (λ c κs. search needs) returns returns-2)

@@ -4,9 +4,6 @@ use borrow.Author.Needs.{needs}
 use Rattle.device.proofs.model.DeviceModel.from_stored.Statement.{statement}
 use Rattle.device.proofs.model.DeviceModel.from_stored.Tie as tie
 
-of-stored-requires : tie.Need-of-stored-requires
-of-stored-requires c κs = search needs
-
 returns : tie.Need-returns
 returns c = rw (c .before .before .before .if1 .taken) (c .of-stored .ensures)
 
@@ -14,4 +11,4 @@ returns-2 : tie.Need-returns-2
 returns-2 c = rw (c .if1 .left)
 
 pub from-stored-spec : {M : Type 1} → statement M
-from-stored-spec = tie.close (tie.spec of-stored-requires returns returns-2)
+from-stored-spec = tie.close (tie.spec (λ c κs. search needs) returns returns-2)
