@@ -5,6 +5,7 @@ use mathlib.Core.Path.{_≡_, refl, sym, _∙_, ap}
 use mathlib.Core.Bool.{true, false, true≢false}
 use mathlib.Core.List.{List, [], _∷_, _++_}
 use lib.IntN.{ℤ}
+use lib.ListN.{length}
 use Rattle.protocol.specs.declared.BusAddr.{BusAddr}
 use Rattle.protocol.specs.declared.Message.{Message}
 use Rattle.protocol.specs.declared.Outcome.{Outcome}
@@ -13,10 +14,11 @@ use Rattle.protocol.specs.Carried.{noNack}
 use Rattle.protocol.specs.Refusals.{outcome}
 use Rattle.protocol.specs.Stored.{stored}
 use Rattle.device.specs.declared.model.DeviceModel.{DeviceModel}
-use Rattle.matching.specs.Promise.{afterAll, events, Matched, First}
+use Rattle.device.specs.Model.{modelOf}
+use Rattle.matching.specs.Promise.{afterAll, events, Matched, First, tick}
 use Rattle.matching.proofs.Called.{run-rises}
 use Rattle.matching.proofs.Machine.{leftmost}
-use Rattle.matching.proofs.Leftmost.{leftmost-matching, leftmost-earliest}
+use Rattle.matching.proofs.Leftmost.{leftmost-matching, leftmost-earliest, earliest-unique}
 use Rattle.sequence.specs.Events.{Envelope, Event, checked, reading}
 use Rattle.sequence.specs.Calls.{feed, check, ask}
 use Rattle.sequence.proofs.Standing.{table-antitone}
@@ -27,8 +29,9 @@ use Rattle.dsp.specs.declared.DspSequencer.{DspSequencer}
 use Rattle.dsp.specs.declared.DspFinished.{DspFinished}
 use Rattle.dsp.specs.Answers.{begun, finished, taken, noSync, isDone}
 use Rattle.dsp.specs.Calls.{DspCall, into-result, take-refused, after, event}
-use Rattle.dsp_runs.specs.Theorem.{Right}
+use Rattle.dsp_runs.specs.Theorem.{opening, payloadIn, Names, Right}
 use Rattle.dsp_runs.proofs.States.{sequencer}
+use Rattle.dsp_runs.proofs.OneModel.{opening-antitone}
 use Rattle.dsp_runs.proofs.Whole.{right}
 
 -- ---- what comes in
@@ -71,6 +74,19 @@ places m cs = leftmost reading (table m) (run cs)
 earliest : (m : DeviceModel) (cs : List DspCall) → Off m cs → At m cs (places m cs)
 earliest m cs d = leftmost-earliest {r = run cs} (table-antitone (row m) (next m) DspStep.Done (stepsFor m)) (run-rises (sequencer m) cs) (d .0) (d .1)
 
+-- entries 1 to 3, and the model that the device info at the third names
+abbrev opened : List DspCall → List ℕ
+opened cs = leftmost reading opening (run cs)
+
+opened-earliest : (cs : List DspCall) → length (opened cs) ≡ 3 → First reading (checked 0) event (begun .seq) after opening cs (opened cs)
+opened-earliest cs h = leftmost-earliest {r = run cs} opening-antitone (run-rises (sequencer DeviceModel.Mevo) cs) _ (leftmost-matching {r = run cs} h)
+
+abbrev told : List DspCall → List ℕ → DeviceModel
+told cs ps = modelOf (payloadIn (tick reading (checked 0) event (begun .seq) after cs ps 3))
+
+names : (m : DeviceModel) (cs : List DspCall) → length (opened cs) ≡ 3 → told cs (opened cs) ≡ m → Names m cs
+names m cs h i ps f = ap (told cs) (earliest-unique f (opened-earliest cs h)) ∙ i
+
 not-yet : (m : DeviceModel) (cs : List DspCall) → Right m cs → isDone (state cs .state .step) ≡ false → Off m cs → ⊥
 not-yet m cs r h d = true≢false (ap isDone (sym (r .ends .done .1 d)) ∙ h)
 
@@ -93,13 +109,13 @@ abbrev xiDay : List DspCall
 xiDay = xiTaken ++ ask into-result ∷ status 13 ∷ []
 
 xi-info : Right DeviceModel.Xi xiInfo
-xi-info = right DeviceModel.Xi xiInfo (not, (not, (λ p. refl, (not, (not, (not, (not, tt)))))))
+xi-info = right .right DeviceModel.Xi xiInfo (names DeviceModel.Xi xiInfo refl refl)
 
 xi-asked : Right DeviceModel.Xi (xiInfo ++ ask take-refused ∷ [])
-xi-asked = right DeviceModel.Xi (xiInfo ++ ask take-refused ∷ []) (not, (not, (λ p. refl, (not, (not, (not, (not, tt)))))))
+xi-asked = right .right DeviceModel.Xi (xiInfo ++ ask take-refused ∷ []) (names DeviceModel.Xi (xiInfo ++ ask take-refused ∷ []) refl refl)
 
 xi : Right DeviceModel.Xi xiDay
-xi = right DeviceModel.Xi xiDay (not, (not, (λ p. refl, (not, (not, (not, (not, (not, (not, tt)))))))))
+xi = right .right DeviceModel.Xi xiDay (right .agreed DeviceModel.Xi xiDay (not, (not, (λ p. refl, (not, (not, (not, (not, (not, (not, tt))))))))))
 
 xi-end : Off DeviceModel.Xi xiEnd
 xi-end = (places DeviceModel.Xi xiEnd, leftmost-matching {r = run xiEnd} refl)
@@ -160,10 +176,10 @@ abbrev mevoDay : List DspCall
 mevoDay = mevoEnd ++ ask take-refused ∷ ask into-result ∷ []
 
 mevo-info : Right DeviceModel.Mevo mevoInfo
-mevo-info = right DeviceModel.Mevo mevoInfo (not, (tt, (tt, (λ p. refl, tt))))
+mevo-info = right .right DeviceModel.Mevo mevoInfo (names DeviceModel.Mevo mevoInfo refl refl)
 
 mevo : Right DeviceModel.Mevo mevoDay
-mevo = right DeviceModel.Mevo mevoDay (not, (tt, (tt, (λ p. refl, (not, (not, (not, (not, tt))))))))
+mevo = right .right DeviceModel.Mevo mevoDay (names DeviceModel.Mevo mevoDay refl refl)
 
 mevo-end : Off DeviceModel.Mevo mevoEnd
 mevo-end = (places DeviceModel.Mevo mevoEnd, leftmost-matching {r = run mevoEnd} refl)
@@ -188,3 +204,15 @@ pub mevo-model : finished (state (mevoEnd ++ ask take-refused ∷ [])) .sync .mo
 mevo-model =
     ap (λ (f : DspFinished). f .sync .model)
     (mevo .asked .from (mevoEnd ++ ask take-refused ∷ []) _ refl mevo-end (places DeviceModel.Mevo mevoDay) (earliest DeviceModel.Mevo mevoDay mevo-ticked-off))
+
+-- ---- a unit that names both models: the device info at entry 3 decides, whatever came before it and comes after it
+
+abbrev bothDay : List DspCall
+bothDay = devInfo (70 ∷ 83 ∷ 32 ∷ 88 ∷ 105 ∷ []) 4 ∷ mevoEnd ++ devInfo (70 ∷ 83 ∷ 32 ∷ 88 ∷ 105 ∷ []) 2_000_000_009 ∷ []
+
+pub both-named : right .named bothDay .0 ≡ DeviceModel.Mevo
+both-named = sym (right .named bothDay .1 (opened bothDay) (opened-earliest bothDay refl))
+
+pub both-ticked-off : Off DeviceModel.Mevo bothDay
+unfolding stored
+both-ticked-off = right .right DeviceModel.Mevo bothDay (names DeviceModel.Mevo bothDay refl refl) .ends .done .0 refl

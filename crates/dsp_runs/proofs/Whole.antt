@@ -3,23 +3,21 @@
 -- Assumes nothing.
 use Prim.Native.Nat.{ℕ, zero, suc, _-_, _≤_, _<_}
 use native.Mathlib.Omega.{arith}
-use mathlib.Core.Path.{_≡_, refl, ap, subst⁻¹, _∙_}
+use mathlib.Core.Path.{_≡_, refl, sym, ap, subst⁻¹, _∙_}
 use mathlib.Core.Logic.{_↔_}
 use mathlib.Core.Bool.{Bool, true, false, cond}
-use mathlib.Core.List.{List, [], _∷_, _++_, nil≢cons}
+use mathlib.Core.List.{List, [], _∷_, _++_, nil≢cons, append-nil}
 use lib.ListN.{length, getD}
 use Rattle.protocol.specs.declared.OptionNack.{OptionNack}
 use Rattle.protocol.specs.Carried.{noNack}
 use Rattle.protocol.specs.Refusals.{outcome, lowest}
 use Rattle.device.specs.declared.model.DeviceModel.{DeviceModel}
 use Rattle.device.specs.Model.{hasPowerMode}
-use Rattle.matching.specs.Promise.{Each, afterAll, events}
+use Rattle.matching.specs.Promise.{Each, afterAll}
 use Rattle.matching.proofs.Machine.{Antitone, ticks, tickedFrom}
 use Rattle.matching.proofs.Embeds.{length-snoc}
 use Rattle.matching.proofs.Ticked.{tickedFrom-grows}
 use Rattle.matching.proofs.Leftmost.{ticks-none}
-use Rattle.matching.proofs.Called.{events-append}
-use Rattle.matching.proofs.Entries.{each-append}
 use Rattle.matching.proofs.Spelled.{spelled}
 use Rattle.matching.proofs.Promised as promised
 use Rattle.sequence.specs.Accepted.{resultRefusals}
@@ -35,8 +33,8 @@ use Rattle.dsp.specs.declared.DspFinished.{DspFinished}
 use Rattle.dsp.specs.Answers.{begun, noSync, finished, taken, isDone}
 use Rattle.dsp.specs.Calls.{DspCall, into-result, take-refused, after, event, takes}
 use Rattle.dsp_runs.specs.Theorem.{resultOf, nackOf, Names, Right, Theorem}
-use Rattle.dsp_runs.proofs.States.{afterFor, stateOf, keep, keptAll, extra, sequencer, others}
-use Rattle.dsp_runs.proofs.OneModel.{Knows, knows-done, begins, agree}
+use Rattle.dsp_runs.proofs.States.{stateOf, keep, keptAll, extra, sequencer, others}
+use Rattle.dsp_runs.proofs.OneModel.{Knows, knows-done, agree, named, agreed}
 
 -- the result with the model m
 abbrev finishedFor : DeviceModel → DspSequencer → DspFinished
@@ -201,9 +199,6 @@ module _ (m : DeviceModel) where
 
   -- ---- from the sequencer that goes by m to the one that goes by what it stored
 
-  beginning : (pre post : List DspCall) → Each (Names m) (events reading event 0 (pre ++ post)) → Each (Names m) (events reading event 0 pre)
-  beginning pre post n = each-append (Names m) (events reading event 0 pre) _ (rw (events-append reading event 0 pre post) at n) .0
-
   by-model : (s : DspSequencer) → Knows m (s .state) → finished s ≡ finishedFor m s
   by-model s h = go (isDone (s .state .step)) refl
     where
@@ -211,26 +206,21 @@ module _ (m : DeviceModel) where
       go true p = rw (p, knows-done m (s .state) h p)
       go false p = rw p
 
-  module _ (cs : List DspCall) (n : Each (Names m) (events reading event 0 cs)) where
-    agrees : (pre post : List DspCall) → cs ≡ pre ++ post
-        → (afterAll after (begun .seq) pre ≡ afterAll (afterFor m) (begun .seq) pre) × Knows m (afterAll after (begun .seq) pre .state)
-    agrees pre post e = agree m pre (begun .seq) (begins m) (beginning pre post (rw e at n))
-
-    all : Right m cs
-    all =
-        record {
-          ends = promised.same-ends (table m) cs (λ s. s .state .step ≡ DspStep.Done) (agree m cs (begun .seq) (begins m) n .0)
-              (promised.ends nil anti (sequencer m) noNack (λ s. s .state .step ≡ DspStep.Done) (λ es t y h. done-iff (length es) h) cs);
-          asked = promised.same-answers (table m) cs (ask into-result) finished (finishedFor m) _ _ _
-              (λ pre post e. let w = agrees pre post e in by-model (afterAll after (begun .seq) pre) (w .1) ∙ ap (finishedFor m) (w .0))
-              (λ later f. refl)
-              (promised.answers nil anti (sequencer m) noNack (ask into-result) (finishedFor m) (record { outcome = outcome 12; sync = noSync })
-              (λ f. record { outcome = outcome 0; sync = resultOf m f }) too-early written cs);
-          took = promised.same-answers (table m) cs (ask take-refused) (λ s. taken s .refused) (λ s. taken s .refused) noNack (nackOf (hasPowerMode m)) _
-              (λ pre post e. ap (λ (s : DspSequencer). taken s .refused) (agrees pre post e .0))
-              given
-              (promised.answers-held nil anti (sequencer m) noNack holds (few (λ e. e)) some (ask take-refused) (λ s. taken s .refused) (λ x. x) (λ es t y. refl) cs);
-        }
+  all : (cs : List DspCall) → Names m cs → Right m cs
+  all cs n =
+      record {
+        ends = promised.same-ends (table m) cs (λ s. s .state .step ≡ DspStep.Done) (agree m cs n cs [] (sym (append-nil cs)) .0)
+            (promised.ends nil anti (sequencer m) noNack (λ s. s .state .step ≡ DspStep.Done) (λ es t y h. done-iff (length es) h) cs);
+        asked = promised.same-answers (table m) cs (ask into-result) finished (finishedFor m) _ _ _
+            (λ pre post e. let w = agree m cs n pre post e in by-model (afterAll after (begun .seq) pre) (w .1) ∙ ap (finishedFor m) (w .0))
+            (λ later f. refl)
+            (promised.answers nil anti (sequencer m) noNack (ask into-result) (finishedFor m) (record { outcome = outcome 12; sync = noSync })
+            (λ f. record { outcome = outcome 0; sync = resultOf m f }) too-early written cs);
+        took = promised.same-answers (table m) cs (ask take-refused) (λ s. taken s .refused) (λ s. taken s .refused) noNack (nackOf (hasPowerMode m)) _
+            (λ pre post e. ap (λ (s : DspSequencer). taken s .refused) (agree m cs n pre post e .0))
+            given
+            (promised.answers-held nil anti (sequencer m) noNack holds (few (λ e. e)) some (ask take-refused) (λ s. taken s .refused) (λ x. x) (λ es t y. refl) cs);
+      }
 
 pub right : Theorem
-right m cs n = all m cs n
+right = record { named = named; agreed = agreed; right = all }

@@ -11,13 +11,15 @@ use Rattle.protocol.specs.Kinds.{devInfoResp}
 use Rattle.protocol.specs.Refusals.{outcome}
 use Rattle.device.specs.declared.model.DeviceModel.{DeviceModel}
 use Rattle.device.specs.Model.{modelOf, hasPowerMode}
-use Rattle.matching.specs.Promise.{Each, Ends, Answers, run}
+use Rattle.matching.specs.Matching.{Table}
+use Rattle.matching.specs.Promise.{Each, Ends, Answers, First, run, tick}
 use Rattle.sequence.specs.Events.{Envelope, Event, fed, checked, reading}
 use Rattle.sequence.specs.Calls.{ask}
 use Rattle.sequence.specs.Replies.{devInfoIn, configIn}
+use Rattle.sequence.specs.Rows.{test}
 use Rattle.dsp_steps.specs.declared.DspStep.{DspStep}
 use Rattle.dsp_steps.specs.Stores.{fromDsp, statusIn, hwInfoIn, prodInfoIn, nackIn, unansweredIn, noHwInfo}
-use Rattle.dsp_steps.specs.Table.{table}
+use Rattle.dsp_steps.specs.Table.{entry1, entry2, entry3, table}
 use Rattle.dsp.specs.declared.DspSync.{DspSync}
 use Rattle.dsp.specs.Answers.{begun, finished, taken, noSync}
 use Rattle.dsp.specs.Calls.{DspCall, into-result, take-refused, after, event, takes}
@@ -41,19 +43,36 @@ abbrev pub nackOf : Bool → List DspCall → (ℕ → Event Envelope) → Optio
 nackOf false since at = noNack
 nackOf true since at = cond (takes since) noNack (nackIn (at 8) noNack)
 
--- if this is a device-info reply from the Dsp, it names m
-abbrev pub Names : DeviceModel → Event Envelope → Type 0
-Names m (fed e t) = fromDsp devInfoResp e ≡ true → modelOf (e .payload) ≡ m
-Names m (checked t) = Unit {0}
+-- entries 1 to 3, with which every model's table begins
+abbrev pub opening : Table (Event Envelope)
+opening = test entry1 ∷ test entry2 ∷ test entry3 ∷ []
+
+-- the payload of an envelope; a check has none
+abbrev pub payloadIn : Event Envelope → List ℕ
+payloadIn (fed e t) = e .payload
+payloadIn (checked t) = []
+
+-- if this is a device info from the Dsp, it names m
+abbrev pub Says : DeviceModel → Event Envelope → Type 0
+Says m (fed e t) = fromDsp devInfoResp e ≡ true → modelOf (e .payload) ≡ m
+Says m (checked t) = Unit {0}
 
 -- nothing looks past the end of a run; a start-up begins as `new` leaves it
 module _ (m : DeviceModel) (cs : List DspCall) where
+  -- The list names m: the device info that ticks entry 3 does. A list in which none does names either model.
+  abbrev pub Names : Type 0
+  Names = (ps : List ℕ) → First reading (checked 0) event (begun .seq) after opening cs ps
+      → modelOf (payloadIn (tick reading (checked 0) event (begun .seq) after cs ps 3)) ≡ m
+
   pub record Right : Type 0 where
     pub ends : Ends reading (checked 0) event (begun .seq) after (table m) (λ s. s .state .step ≡ DspStep.Done) cs
     pub asked : Answers reading (checked 0) event (begun .seq) after (table m) (ask into-result) finished
         (record { outcome = outcome 12; sync = noSync }) (λ since at. record { outcome = outcome 0; sync = resultOf m at }) cs
     pub took : Answers reading (checked 0) event (begun .seq) after (table m) (ask take-refused) (λ s. taken s .refused) noNack (nackOf (hasPowerMode m)) cs
 
--- for every list of calls in whose run all device-info replies from the Dsp name one model
-abbrev pub Theorem : Type 0
-Theorem = (m : DeviceModel) (cs : List DspCall) → Each (Names m) (run reading (checked 0) event (begun .seq) after cs) → Right m cs
+pub record Theorem : Type 0 where
+  -- every list of calls names a model; where its device infos agree, it is theirs
+  pub named : (cs : List DspCall) → (m : DeviceModel) × Names m cs
+  pub agreed : (m : DeviceModel) (cs : List DspCall) → Each (Says m) (run reading (checked 0) event (begun .seq) after cs) → Names m cs
+  -- and it is right by the model that it names
+  pub right : (m : DeviceModel) (cs : List DspCall) → Names m cs → Right m cs

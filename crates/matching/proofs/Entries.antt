@@ -3,9 +3,11 @@
 use mathlib.Core.Path.{_≡_, refl, sym}
 use mathlib.Core.Bool.{Bool, true, false, _&&_, _||_, and-eq-true-iff, true≢false}
 use mathlib.Core.List.{List, [], _∷_, _++_, map}
-use Prim.Native.Nat.{ℕ, _+_}
+use Prim.Native.Nat.{ℕ, zero, suc, _+_, _<_}
+use native.Mathlib.Nat.{le-of-suc-le-suc, not-suc-le-zero}
 use native.Mathlib.Omega.{arith}
 use lib.Dec.{leb}
+use lib.ListN.{length, getD}
 use borrow.Author.Tests.{leb-true, le-leb}
 use Rattle.matching.specs.Matching.{Entry}
 use Rattle.matching.specs.Promise.{Each}
@@ -44,3 +46,8 @@ antitone-rows f h (x ∷ l) = (h x, antitone-rows f h l)
 pub each-append : {A : Type 0} (P : A → Type 0) (a b : List A) → Each P (a ++ b) → Each P a × Each P b
 each-append P [] b h = (tt, h)
 each-append P (x ∷ a) b h = let w = each-append P a b (h .1) in ((h .0, w .0), w .1)
+
+pub each-at : {A : Type 0} (P : A → Type 0) (l : List A) (k : ℕ) (d : A) → Each P l → k < length l → P (getD l k d)
+each-at P [] k d h i = absurd (not-suc-le-zero i)
+each-at P (x ∷ l) zero d h i = h .0
+each-at P (x ∷ l) (suc k) d h i = each-at P l k d (h .1) (le-of-suc-le-suc i)

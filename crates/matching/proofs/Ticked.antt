@@ -7,12 +7,13 @@ use mathlib.Core.Bool.{Bool, true, false, cond}
 use mathlib.Core.List.{List, [], _∷_, _++_, map, append-assoc, append-nil}
 use Prim.Native.Nat.{ℕ, zero, suc, _+_, _≤_, _<_, zero-le}
 use native.Mathlib.Nat.{add-zero, zero-add, add-suc, suc-add, le-refl, le-trans, le-of-lt, le-of-eq, le-of-suc-le-suc, not-suc-le-zero}
+use native.Mathlib.Decide.{decLt}
 use native.Mathlib.Omega.{arith}
-use lib.ListN.{length, getD, drop, length-map}
+use lib.ListN.{length, getD, drop, length-map, List·getD-append}
 use lib.Seq.{getD-at}
-use Rattle.matching.specs.Matching.{Table, Matching, Earliest}
+use Rattle.matching.specs.Matching.{Entry, Table, never, Matching, Earliest}
 use Rattle.matching.specs.Promise.{Each}
-use Rattle.matching.proofs.Machine.{Antitone, Rising, end, then, mark, ticks, heard, tickedFrom, ticked, leftmostFrom, leftmost}
+use Rattle.matching.proofs.Machine.{Antitone, Rising, end, then, readingOf, mark, ticks, heard, tickedFrom, ticked, leftmostFrom, leftmost}
 use Rattle.matching.proofs.Embeds.{drop-cons, length-snoc}
 use Rattle.matching.proofs.Leftmost.{ticks-none, ticks-inside, leftmost-matching, leftmost-earliest, earliest-unique}
 
@@ -156,3 +157,25 @@ module _ {E : Type 0} (at : E → ℕ) (d : E) (T : Table E) where
         let still : leftmost at T (a ++ b) ≡ leftmost at T a =
         leftmost-append at T 0 [] a b ∙ rw (leftmost-full at T _ (ticked at T a) b (le-of-eq (sym (as-many a ∙ whole)))) (append-nil _) in
         rw (same, ← still) (leftmost-earliest anti k _ (leftmost-matching (ap length still ∙ whole)))
+
+-- ---- a table's first entries
+
+module _ {E : Type 0} (at : E → ℕ) (T U : Table E) where
+  same-ticks : (es : List E) (e : E) → (ticks at (T ++ U) es e ≡ true → length es < length T) → ticks at T es e ≡ ticks at (T ++ U) es e
+  same-ticks es e h = go (decLt (length es) (length T))
+    where
+      none-of : (b : Bool) → ticks at (T ++ U) es e ≡ b → length T ≤ length es → ticks at T es e ≡ ticks at (T ++ U) es e
+      none-of true p i = absurd (omega (arith, h p))
+      none-of false p i = ticks-none at T es e i ∙ sym p
+
+      go : Dec (length es < length T) → ticks at T es e ≡ ticks at (T ++ U) es e
+      go (yes i) = ap (λ (f : Entry E). f (readingOf at es) e) (sym (List·getD-append T U never (length es) i))
+      go (no i) = none-of (ticks at (T ++ U) es e) refl (omega arith)
+
+  -- the first entries of a table are ticked as they are alone, as long as no later one is
+  pub ticked-part : (es r : List E) → length (tickedFrom at (T ++ U) es r) ≤ length T → tickedFrom at T es r ≡ tickedFrom at (T ++ U) es r
+  ticked-part es [] h = refl
+  ticked-part es (e ∷ r) h =
+      let inside : ticks at (T ++ U) es e ≡ true → length es < length T =
+      λ p. omega (arith, length-snoc es e, tickedFrom-grows at (T ++ U) (es ++ e ∷ []) r, rw p at h) in
+      rw (same-ticks es e inside) (ticked-part (heard at (T ++ U) es e) r h)

@@ -17,7 +17,7 @@ use Rattle.matching.specs.Promise.{Each}
 use Rattle.matching.proofs.Machine as machine
 use Rattle.matching.proofs.Embeds.{length-snoc, reading-snoc}
 use Rattle.matching.proofs.Leftmost.{ticks-inside}
-use Rattle.matching.proofs.Entries.{antitone-rows}
+use Rattle.matching.proofs.Entries.{antitone-rows, each-at}
 use Rattle.sequence.specs.declared.OptionInstant.{OptionInstant}
 use Rattle.sequence.specs.Events.{Event, fed, checked, reading, Wait, forever, nanos, over}
 use Rattle.sequence.specs.Rows.{Row, test, past, State, noDeadline, deadlineAt, due, passes, deadlineAfter, idle, ticked, heard}
@@ -142,13 +142,8 @@ module _ {A Y K : Type 0} (row : K → Row A Y) (next : K → K) (done : K) (ste
 
   -- the step is the last one exactly when every row is ticked, if a test tells the last one from those of the table
   module _ (isDone : K → Bool) (last : isDone done ≡ true) (others : Each (λ k. isDone k ≡ false) steps) where
-    not-done : (l : List K) → Each (λ k. isDone k ≡ false) l → (k : ℕ) → k < length l → isDone (getD l k done) ≡ false
-    not-done [] h k i = absurd (not-suc-le-zero i)
-    not-done (x ∷ l) h zero i = h .0
-    not-done (x ∷ l) h (suc k) i = not-done l (h .1) k (le-of-suc-le-suc i)
-
     pub before-done : (k : ℕ) → k < length table → isDone (stepAt k) ≡ false
-    before-done k h = not-done steps others k (rw length-map at h)
+    before-done k h = each-at (λ k. isDone k ≡ false) steps k done others (rw length-map at h)
 
     pub at-done : (k : ℕ) → k ≡ length table → stepAt k ≡ done
     at-done k h = rw (h, length-map) (List·getD-eq-default steps done (le-refl (length steps)))
