@@ -195,7 +195,7 @@ agreed m cs h ps f =
     ap (λ (qs : List ℕ). modelOf (payloadIn (getD (map (λ p. getD (run cs) p nil) qs) 2 nil))) (spelled 0 ps 3 (x .one))
     ∙ says m _ (getD (run cs) (getD ps 2 0) nil) (each-at (Says m) (run cs) (getD ps 2 0) nil h (x .inside 2 (omega (arith, x .one)))) (x .passes 2 (omega arith))
 
--- the step at which entry 3 is awaited is the third
+-- is entry 3 awaited at this step?
 abbrev awaits : DspStep → Bool
 awaits WaitStatus = false
 awaits WaitDspQuery = false
@@ -224,6 +224,7 @@ module _ (m : DeviceModel) where
       go true (suc k) = refl
       go false k = refl
 
+  -- it is at the third
   third : (k : ℕ) → getD (stepsFor m) k Done ≡ WaitDevInfo → k ≡ 2
   third zero h = absurd (true≢false (sym (ap awaits h)))
   third (suc zero) h = absurd (true≢false (sym (ap awaits h)))

@@ -1,8 +1,7 @@
 -- Entries that a later tick before never helps, and how to join them: what discharges `Antitone` of a table.
 -- Assumes nothing.
-use mathlib.Core.Path.{_≡_, refl, sym}
-use mathlib.Core.Bool.{Bool, true, false, _&&_, _||_, and-eq-true-iff, true≢false}
-use mathlib.Core.List.{List, [], _∷_, _++_, map}
+use mathlib.Core.Bool.{Bool, _&&_, and-eq-true-iff}
+use mathlib.Core.List.{List, [], _∷_, map}
 use Prim.Native.Nat.{ℕ, zero, suc, _+_, _<_}
 use native.Mathlib.Nat.{le-of-suc-le-suc, not-suc-le-zero}
 use native.Mathlib.Omega.{arith}
@@ -28,25 +27,12 @@ module _ {E : Type 0} where
       let s = and-eq-true-iff (p t′ e) (q t′ e) .0 m in
       rw (a t t′ e h (s .0), b t t′ e h (s .1))
 
-  -- one of two tests
-  pub antitone-or : {p q : Entry E} → Antitone p → Antitone q → Antitone (λ t e. p t e || q t e)
-  antitone-or {p} {q} a b t t′ e h m = go (p t′ e) (p t e) (a t t′ e h) m
-    where
-      go : (x y : Bool) → (x ≡ true → y ≡ true) → x || q t′ e ≡ true → y || q t e ≡ true
-      go x true i n = refl
-      go true false i n = absurd (true≢false (sym (i refl)))
-      go false false i n = b t t′ e h n
-
 -- every entry of a table that is made from rows by one rule
 pub antitone-rows : {A E : Type 0} (f : A → Entry E) → ((x : A) → Antitone (f x)) → (l : List A) → Each Antitone (map f l)
 antitone-rows f h [] = tt
 antitone-rows f h (x ∷ l) = (h x, antitone-rows f h l)
 
--- what holds of each element of two lists joined holds of each of either
-pub each-append : {A : Type 0} (P : A → Type 0) (a b : List A) → Each P (a ++ b) → Each P a × Each P b
-each-append P [] b h = (tt, h)
-each-append P (x ∷ a) b h = let w = each-append P a b (h .1) in ((h .0, w .0), w .1)
-
+-- what holds of each element holds of the one at a position
 pub each-at : {A : Type 0} (P : A → Type 0) (l : List A) (k : ℕ) (d : A) → Each P l → k < length l → P (getD l k d)
 each-at P [] k d h i = absurd (not-suc-le-zero i)
 each-at P (x ∷ l) zero d h i = h .0

@@ -10,7 +10,6 @@ use native.Mathlib.Nat.{add-zero, zero-add, add-suc, suc-add, le-refl, le-trans,
 use native.Mathlib.Decide.{decLt}
 use native.Mathlib.Omega.{arith}
 use lib.ListN.{length, getD, drop, length-map, List·getD-append}
-use lib.Seq.{getD-at}
 use Rattle.matching.specs.Matching.{Entry, Table, never, Matching, Earliest}
 use Rattle.matching.specs.Promise.{Each}
 use Rattle.matching.proofs.Machine.{Antitone, Rising, end, then, readingOf, mark, ticks, heard, tickedFrom, ticked, leftmostFrom, leftmost}
@@ -60,9 +59,6 @@ module _ {E : Type 0} (at : E → ℕ) (T : Table E) where
   pub ticked-full : (es r : List E) → length T ≤ length es → tickedFrom at T es r ≡ es
   ticked-full es [] h = refl
   ticked-full es (e ∷ r) h = rw (ticks-none at T es e h) (ticked-full es r h)
-
-  pub ticked-stays : (a b : List E) → length (ticked at T a) ≡ length T → ticked at T (a ++ b) ≡ ticked at T a
-  ticked-stays a b h = tickedFrom-append [] a b ∙ ticked-full (ticked at T a) b (le-of-eq (sym h))
 
   leftmost-full : (n : ℕ) (es r : List E) → length T ≤ length es → leftmostFrom at T n es r ≡ []
   leftmost-full n es [] h = refl
@@ -136,13 +132,7 @@ module _ {E : Type 0} (at : E → ℕ) (d : E) (T : Table E) where
     pub ticked-earliest : {r : List E} {ps : List ℕ} → Rising at 0 r → Earliest at d T r ps → ticked at T r ≡ map (λ p. getD r p d) ps
     ticked-earliest {r} k x = rw (earliest-leftmost k x) (at-leftmost r)
 
-    -- an event that ticks, after the events a, is at the position of the entry that it ticks
-    pub tick-position : {ps : List ℕ} (a : List E) (e : E) (b : List E) → Rising at 0 (a ++ e ∷ b) → ticks at T (ticked at T a) e ≡ true
-        → Earliest at d T (a ++ e ∷ b) ps → getD ps (length (ticked at T a)) 0 ≡ length a
-    tick-position a e b k h x =
-        rw (earliest-leftmost k x, leftmost-append at T 0 [] a (e ∷ b), h, zero-add) (getD-at (leftmost at T a) (length a) _ 0 _ (sym (as-many a)))
-
-    -- and back: the event at the k-th position ticks, and k events did before
+    -- the event at the k-th position ticks, and k events did before
     pub position-tick : {ps : List ℕ} (k : ℕ) (a : List E) (e : E) (b : List E) → Rising at 0 (a ++ e ∷ b) → Earliest at d T (a ++ e ∷ b) ps
         → k < length T → getD ps k 0 ≡ length a → (length (ticked at T a) ≡ k) × (ticks at T (ticked at T a) e ≡ true)
     position-tick k a e b j x l h =
