@@ -6,8 +6,8 @@ use mathlib.Core.Bool.{true, false, cond, _&&_}
 use mathlib.Core.List.{List, [], _∷_}
 use lib.Dec.{ltb}
 use lib.ListN.{getD}
-use Rattle.avr_steps.specs.declared.AvrStep.{AvrStep}
-use Rattle.avr_steps.specs.declared.AvrStep.the-variants as Avr
+use Rattle.avr_table.specs.declared.AvrStep.{AvrStep}
+use Rattle.avr_table.specs.declared.AvrStep.the-variants as Avr
 use Rattle.avr.specs.declared.AvrSequencer.{AvrSequencer}
 use Rattle.abi_values.specs.Numbers.{modelIn, modelOut}
 use Rattle.abi_avr.specs.declared.SomeAvrStep.{SomeAvrStep}

@@ -4,9 +4,9 @@ ghost use Rattle.abi_avr.specs.State.{avrStepIn, avrStepOut, avrIn, avrO
 use abi_values::model_in;
 use abi_values::model_out;
 use avr::AvrSequencer;
-use avr_steps::AvrReplies;
 use avr_steps::AvrState;
-use avr_steps::AvrStep;
+use avr_table::AvrReplies;
+use avr_table::AvrStep;
 use sequence::OptionInstant;
 
 #[repr(C)]

@@ -8,8 +8,8 @@ use lib.Dec.{ltb}
 use lib.ListN.{getD}
 use Rattle.protocol.specs.declared.OptionNack.{OptionNack}
 use Rattle.protocol.specs.Addr.{byteOf}
-use Rattle.dsp_steps.specs.declared.DspStep.{DspStep}
-use Rattle.dsp_steps.specs.declared.DspStep.the-variants as Dsp
+use Rattle.dsp_table.specs.declared.DspStep.{DspStep}
+use Rattle.dsp_table.specs.declared.DspStep.the-variants as Dsp
 use Rattle.dsp.specs.declared.DspSequencer.{DspSequencer}
 use Rattle.abi_values.specs.Numbers.{addrIn}
 use Rattle.abi_messages.specs.Messages.{dspStatusIn, dspStatusOut}

@@ -12,10 +12,10 @@ use Rattle.device.specs.Sends.{poll}
 use Rattle.sequence.specs.Accepted.{feedOutcome, checkOutcome, resultRefusals}
 use Rattle.sequence.specs.Events.{Event, fed, checked, reading}
 use Rattle.sequence.specs.Rows.{judged}
-use Rattle.avr_steps.specs.declared.AvrStep.{AvrStep}
-use Rattle.avr_steps.specs.declared.AvrReplies.{AvrReplies}
+use Rattle.avr_table.specs.declared.AvrStep.{AvrStep}
+use Rattle.avr_table.specs.declared.AvrReplies.{AvrReplies}
 use Rattle.avr_steps.specs.declared.AvrMoved.{AvrMoved}
-use Rattle.avr_steps.specs.Stores.{Dated, noReplies}
+use Rattle.avr_table.specs.Stores.{Dated, noReplies}
 use Rattle.avr_steps.specs.Answers as steps
 use Rattle.avr.specs.declared.AvrSync.{AvrSync}
 use Rattle.avr.specs.declared.AvrSequencer.{AvrSequencer}

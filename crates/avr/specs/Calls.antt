@@ -4,7 +4,7 @@ use Prim.Native.Nat.{ℕ}
 use mathlib.Core.List.{List}
 use Rattle.sequence.specs.Events.{Event}
 use Rattle.sequence.specs.Calls as calls
-use Rattle.avr_steps.specs.Stores.{Dated, env}
+use Rattle.avr_table.specs.Stores.{Dated, env}
 use Rattle.avr.specs.declared.AvrSequencer.{AvrSequencer}
 use Rattle.avr.specs.Answers.{fedTo, polled}
 

@@ -4,19 +4,21 @@
 ghost use mathlib.Core.Path.{_≡_};
 ghost use denote.Ref.{now as held};
 ghost use Rattle.protocol.specs.declared.Outcome.{Outcome};
+ghost use Rattle.protocol.specs.Action.{noAction};
+ghost use Rattle.sequence.specs.Rows.{judged};
 ghost use Rattle.device.specs.declared.model.DeviceModel.{DeviceModel};
 ghost use Rattle.protocol.specs.Carried.{noAvrStatus};
-ghost use Rattle.avr_steps.specs.Stores.{noReplies};
+ghost use Rattle.avr_table.specs.Stores.{noReplies};
 ghost use Rattle.avr_steps.specs.Answers.{begun as newState};
 ghost use Rattle.avr.specs.Answers.{begun, fedTo, polled, accepted, refused, syncOf, finished};
 use avr_steps::AvrMoved;
-use avr_steps::AvrReplies;
 use avr_steps::AvrState;
-use avr_steps::AvrStep;
-use avr_steps::OptionAvrConfigResp;
-use avr_steps::OptionAvrStatus;
-use avr_steps::OptionCalDataResp;
-use avr_steps::OptionCalParamResp;
+use avr_table::AvrReplies;
+use avr_table::AvrStep;
+use avr_table::OptionAvrConfigResp;
+use avr_table::OptionAvrStatus;
+use avr_table::OptionCalDataResp;
+use avr_table::OptionCalParamResp;
 use device::model::DeviceModel;
 use protocol::Action;
 use protocol::AvrConfigResp;
@@ -163,30 +165,43 @@ fn result(outcome: Outcome, replies: AvrReplies) -> AvrFinished
     }
 }
 
-fn accepted(moved: AvrMoved, now: u64) -> AvrFed
-    ensures { λ r. ⌜ r ≡ accepted moved now ⌝ }
+// Nothing is sent, and nothing changes.
+fn idle(state: AvrState) -> AvrMoved
+    ensures { λ r. ⌜ r ≡ record { action = noAction; state = state } ⌝ }
 {
-    let action = moved.action;
-    let state = moved.state;
-    AvrFed {
-        outcome: Outcome::Accepted,
+    let action = Action::none();
+    AvrMoved {
         action: action,
-        seq: AvrSequencer {
-            state: state,
-            last: now,
-        },
+        state: state,
     }
 }
 
 impl AvrSequencer {
-    fn refuse(self, refusal: Refusal) -> AvrFed
-        ensures { λ r. ⌜ r ≡ refused self (Outcome.Refused refusal) ⌝ }
+    // What a call answers: what it has moved if it is accepted, else its refusal, and nothing has changed.
+    fn judged(self, outcome: Outcome, moved: AvrMoved, now: u64) -> AvrFed
+        ensures { λ r. ⌜ r ≡ judged outcome (accepted moved now) (refused self) ⌝ }
     {
-        let action = Action::none();
-        AvrFed {
-            outcome: Outcome::Refused(refusal),
-            action: action,
-            seq: self,
+        match outcome {
+            Outcome::Accepted => {
+                let action = moved.action;
+                let state = moved.state;
+                return AvrFed {
+                    outcome: outcome,
+                    action: action,
+                    seq: AvrSequencer {
+                        state: state,
+                        last: now,
+                    },
+                };
+            }
+            Outcome::Refused(_) => {
+                let action = Action::none();
+                return AvrFed {
+                    outcome: outcome,
+                    action: action,
+                    seq: self,
+                };
+            }
         }
     }
 
@@ -228,41 +243,20 @@ impl AvrSequencer {
         ensures { λ r. ⌜ r ≡ fedTo self (record { envelope = record { src = src; type-id = «type_id»; message = message; params = params; text = held (text .entry); payload = held (payload .entry) }; wall = wall }) now ⌝ }
     {
         let outcome = sequence::accept_feed(text, payload, self.last, now);
-        match outcome {
-            Outcome::Accepted => match src {
-                BusAddr::Avr => {
-                    let state = self.state;
-                    return accepted(
-                        state.feed(type_id, message, params, text, payload, now, wall),
-                        now,
-                    );
-                }
-                _ => {
-                    let mut seq = self;
-                    seq.last = now;
-                    let action = Action::none();
-                    return AvrFed {
-                        outcome: Outcome::Accepted,
-                        action: action,
-                        seq: seq,
-                    };
-                }
-            },
-            Outcome::Refused(refusal) => return self.refuse(refusal),
-        }
+        let state = self.state;
+        let moved = match src {
+            BusAddr::Avr => state.feed(type_id, message, params, text, payload, now, wall),
+            _ => idle(state),
+        };
+        self.judged(outcome, moved, now)
     }
 
     pub fn check_cal_timeout(self, now: u64) -> AvrFed
         ensures { λ r. ⌜ r ≡ polled self now ⌝ }
     {
         let outcome = sequence::accept_check(self.last, now);
-        match outcome {
-            Outcome::Accepted => {
-                let state = self.state;
-                return accepted(state.check(now), now);
-            }
-            Outcome::Refused(refusal) => return self.refuse(refusal),
-        }
+        let state = self.state;
+        self.judged(outcome, state.check(now), now)
     }
 
     // The result, once Done.

@@ -3,7 +3,7 @@ mod stored;
 
 use avr::AvrFed;
 use avr::AvrSequencer;
-use avr_steps::AvrStep;
+use avr_table::AvrStep;
 use device::model::DeviceModel;
 use protocol::Outcome;
 use reading::call::Call;

@@ -1,11 +1,11 @@
 // Writes what an AVR start-up stores.
 use avr::AvrSync;
-use avr_steps::AvrReplies;
 use avr_steps::AvrState;
-use avr_steps::OptionAvrConfigResp;
-use avr_steps::OptionAvrStatus;
-use avr_steps::OptionCalDataResp;
-use avr_steps::OptionCalParamResp;
+use avr_table::AvrReplies;
+use avr_table::OptionAvrConfigResp;
+use avr_table::OptionAvrStatus;
+use avr_table::OptionCalDataResp;
+use avr_table::OptionCalParamResp;
 use protocol::AvrStatus;
 use writing::fields;
 use writing::fields::FIELDS;

@@ -20,9 +20,9 @@ use Rattle.matching.proofs.Machine.{leftmost}
 use Rattle.matching.proofs.Leftmost.{leftmost-matching, leftmost-earliest}
 use Rattle.sequence.specs.Events.{Event, checked, reading}
 use Rattle.sequence.specs.Calls.{feed, check, ask}
-use Rattle.avr_steps.specs.declared.AvrStep.{AvrStep}
-use Rattle.avr_steps.specs.Stores.{Dated, noFactoryCal, noIfCal, noAvrConfig}
-use Rattle.avr_steps.specs.Table.{table}
+use Rattle.avr_table.specs.declared.AvrStep.{AvrStep}
+use Rattle.avr_table.specs.Stores.{Dated, noFactoryCal, noIfCal, noAvrConfig}
+use Rattle.avr_table.specs.Table.{table}
 use Rattle.avr.specs.declared.AvrSequencer.{AvrSequencer}
 use Rattle.avr.specs.Answers.{begun, finished, noSync, isDone}
 use Rattle.avr.specs.Calls.{AvrCall, into-result, after, event}

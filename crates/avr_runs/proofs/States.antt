@@ -26,11 +26,11 @@ use Rattle.sequence.specs.Calls.{feed, check, ask}
 use Rattle.sequence.proofs.Acceptance.{feed-accepted, check-accepted, feed-fits, check-fits}
 use Rattle.sequence.proofs.Events.{rises, judge}
 use Rattle.sequence.proofs.Standing as rows
-use Rattle.avr_steps.specs.declared.AvrStep.{AvrStep}
-use Rattle.avr_steps.specs.declared.AvrStep.the-variants.{WaitStatus1, WaitStatus2, WaitDevInfo1, WaitDevInfo2, WaitParam0C, WaitParam0D, WaitConfig, WaitFactoryCal, WaitIfCal, WaitAvrConfig, WaitParam64, WaitTimeSync, Done}
+use Rattle.avr_table.specs.declared.AvrStep.{AvrStep}
+use Rattle.avr_table.specs.declared.AvrStep.the-variants.{WaitStatus1, WaitStatus2, WaitDevInfo1, WaitDevInfo2, WaitParam0C, WaitParam0D, WaitConfig, WaitFactoryCal, WaitIfCal, WaitAvrConfig, WaitParam64, WaitTimeSync, Done}
 use Rattle.avr_steps.specs.declared.AvrState.{AvrState}
-use Rattle.avr_steps.specs.Stores.{Dated, Held, env, noReplies, statusPoll}
-use Rattle.avr_steps.specs.Table.{row, next, stepsFor, table}
+use Rattle.avr_table.specs.Stores.{Dated, Held, env, noReplies, statusPoll}
+use Rattle.avr_table.specs.Table.{row, next, stepsFor, table}
 use Rattle.avr_steps.specs.Answers as steps
 use Rattle.avr.specs.declared.AvrSequencer.{AvrSequencer}
 use Rattle.avr.specs.declared.AvrFed.{AvrFed}

@@ -19,8 +19,8 @@ use Rattle.sequence.specs.Events.{checked}
 use Rattle.sequence.specs.Rows.{noDeadline}
 use Rattle.sequence.specs.Calls.{ask}
 use Rattle.sequence.proofs.Standing as rows
-use Rattle.avr_steps.specs.declared.AvrStep.{AvrStep}
-use Rattle.avr_steps.specs.Table.{row, next, stepsFor, table}
+use Rattle.avr_table.specs.declared.AvrStep.{AvrStep}
+use Rattle.avr_table.specs.Table.{row, next, stepsFor, table}
 use Rattle.avr.specs.Answers.{finished, noSync, isDone}
 use Rattle.avr.specs.Calls.{into-result}
 use Rattle.avr_runs.specs.Theorem.{resultOf, Theorem}

@@ -12,9 +12,9 @@ use Rattle.matching.specs.Promise.{Ends, Answers}
 use Rattle.sequence.specs.Events.{Event, checked, reading}
 use Rattle.sequence.specs.Calls.{ask}
 use Rattle.sequence.specs.Replies.{devInfoIn, configIn}
-use Rattle.avr_steps.specs.declared.AvrStep.{AvrStep}
-use Rattle.avr_steps.specs.Stores.{Dated, env, statusIn, factoryCalIn, ifCalIn, avrConfigIn, noFactoryCal, noIfCal, noAvrConfig}
-use Rattle.avr_steps.specs.Table.{table}
+use Rattle.avr_table.specs.declared.AvrStep.{AvrStep}
+use Rattle.avr_table.specs.Stores.{Dated, env, statusIn, factoryCalIn, ifCalIn, avrConfigIn, noFactoryCal, noIfCal, noAvrConfig}
+use Rattle.avr_table.specs.Table.{table}
 use Rattle.avr.specs.declared.AvrSync.{AvrSync}
 use Rattle.avr.specs.Answers.{begun, finished, noSync}
 use Rattle.avr.specs.Calls.{AvrCall, into-result, after, event}

@@ -17,13 +17,13 @@ use Rattle.device.specs.Model.{hasFactoryCal}
 use Rattle.sequence.specs.Events.{Event, fed, checked, Wait, forever, nanos}
 use Rattle.sequence.specs.Rows.{passes, due, reached, noDeadline, idle, ticked}
 use Rattle.sequence.proofs.Arms.{at-ticks, at-idles}
-use Rattle.avr_steps.specs.declared.AvrStep.{AvrStep}
-use Rattle.avr_steps.specs.declared.AvrStep.the-variants.{WaitStatus1, WaitStatus2, WaitDevInfo1, WaitDevInfo2, WaitParam0C, WaitParam0D, WaitConfig, WaitFactoryCal, WaitIfCal, WaitAvrConfig, WaitParam64, WaitTimeSync, Done}
+use Rattle.avr_table.specs.declared.AvrStep.{AvrStep}
+use Rattle.avr_table.specs.declared.AvrStep.the-variants.{WaitStatus1, WaitStatus2, WaitDevInfo1, WaitDevInfo2, WaitParam0C, WaitParam0D, WaitConfig, WaitFactoryCal, WaitIfCal, WaitAvrConfig, WaitParam64, WaitTimeSync, Done}
 use Rattle.avr_steps.specs.declared.AvrState.{AvrState}
-use Rattle.avr_steps.specs.Stores.{Dated, statusPoll}
-use Rattle.avr_steps.specs.Table.{AvrRow, row, next}
+use Rattle.avr_table.specs.Stores.{Dated, statusPoll}
+use Rattle.avr_table.specs.Table.{AvrRow, row, next}
 use Rattle.avr_steps.specs.Answers.{order, polling, isNack, sends, willRepoll, withRepoll, waits, withDeadline, view, made, advance, answered, armAt}
-use Rattle.avr_steps.proofs.AvrStep as step
+use Rattle.avr_table.proofs.AvrStep as step
 
 -- what a feed from the Avr is handed
 abbrev pub dated : ℕ → Message → List ℤ → List ℕ → List ℕ → ℕ → Dated

@@ -14,12 +14,12 @@ use Rattle.device.specs.declared.model.DeviceModel.{DeviceModel}
 use Rattle.sequence.specs.declared.OptionInstant.{OptionInstant}
 use Rattle.sequence.specs.Events.{Event, fed, checked, reading, Wait, forever, nanos, acking}
 use Rattle.sequence.specs.Rows.{State, Moved, past, noDeadline, orAfter, reached, heardAt, heard}
-use Rattle.avr_steps.specs.declared.AvrStep.{AvrStep}
-use Rattle.avr_steps.specs.declared.AvrStep.the-variants.{WaitStatus1, WaitStatus2, WaitDevInfo1, WaitDevInfo2, WaitParam0C, WaitParam0D, WaitConfig, WaitFactoryCal, WaitIfCal, WaitAvrConfig, WaitParam64, WaitTimeSync, Done}
+use Rattle.avr_table.specs.declared.AvrStep.{AvrStep}
+use Rattle.avr_table.specs.declared.AvrStep.the-variants.{WaitStatus1, WaitStatus2, WaitDevInfo1, WaitDevInfo2, WaitParam0C, WaitParam0D, WaitConfig, WaitFactoryCal, WaitIfCal, WaitAvrConfig, WaitParam64, WaitTimeSync, Done}
 use Rattle.avr_steps.specs.declared.AvrState.{AvrState}
 use Rattle.avr_steps.specs.declared.AvrMoved.{AvrMoved}
-use Rattle.avr_steps.specs.Stores.{Dated, Held, noReplies, statusPoll}
-use Rattle.avr_steps.specs.Table.{AvrRow, row, next}
+use Rattle.avr_table.specs.Stores.{Dated, Held, noReplies, statusPoll}
+use Rattle.avr_table.specs.Table.{AvrRow, row, next}
 
 abbrev pub begun : DeviceModel → AvrState
 begun m = record { step = WaitStatus1; model = m; replies = noReplies; «cal_deadline» = noDeadline; «repoll_at» = noDeadline }

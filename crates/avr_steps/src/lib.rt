@@ -10,9 +10,16 @@ ghost use Rattle.protocol.specs.declared.Command.{Command};
 ghost use Rattle.device.specs.Model.{hasFactoryCal};
 ghost use Rattle.sequence.specs.Events.{checked};
 ghost use Rattle.sequence.specs.Rows.{past, noDeadline, deadlineAt};
-ghost use Rattle.avr_steps.specs.declared.AvrStep.{AvrStep};
-ghost use Rattle.avr_steps.specs.Table.{statusRow, devInfoRow, paramRow, next, request, row};
+ghost use Rattle.avr_table.specs.declared.AvrStep.{AvrStep};
+ghost use Rattle.avr_table.specs.Table.{statusRow, devInfoRow, paramRow, next, request, row};
 ghost use Rattle.avr_steps.specs.Answers.{sends, withRepoll, withDeadline, later, advance, answered, sent, armAt, pollAt};
+use avr_table::AvrReplies;
+use avr_table::AvrStep;
+use avr_table::OptionAvrConfigResp;
+use avr_table::OptionAvrStatus;
+use avr_table::OptionCalDataResp;
+use avr_table::OptionCalParamResp;
+use avr_table::request;
 use device::model::DeviceModel;
 use protocol::Action;
 use protocol::AvrConfigResp;
@@ -20,18 +27,13 @@ use protocol::AvrStatus;
 use protocol::BusAddr;
 use protocol::CalDataResp;
 use protocol::CalParamResp;
-use protocol::Command;
 use protocol::ConfigResp;
 use protocol::DevInfoResp;
 use protocol::Message;
 use protocol::OptionConfigResp;
 use protocol::OptionDevInfoResp;
 use protocol::Stored;
-use protocol::TimeSync;
-use requests::cal_data_req;
-use requests::param_read_req;
 use requests::status_poll;
-use requests::time_sync;
 use sequence::OptionInstant;
 
 // How long a reply to a calibration request is waited for, in nanoseconds.
@@ -42,59 +44,6 @@ const STATUS_REPOLL_INTERVAL: u64 = 1_000_000_000;
 
 // The type id of a status poll without its top bit, as a nack names it.
 const STATUS: u8 = 0x2A;
-
-pub enum AvrStep {
-    WaitStatus1,
-    WaitStatus2,
-    WaitDevInfo1,
-    WaitDevInfo2,
-    WaitParam0C,
-    WaitParam0D,
-    WaitConfig,
-    // not on a Xi
-    WaitFactoryCal,
-    WaitIfCal,
-    // the next three not on a Xi
-    WaitAvrConfig,
-    WaitParam64,
-    WaitTimeSync,
-    Done,
-}
-
-#[repr(C)]
-pub struct OptionAvrStatus {
-    pub some: bool,
-    pub value: AvrStatus,
-}
-
-#[repr(C)]
-pub struct OptionCalDataResp {
-    pub some: bool,
-    pub value: CalDataResp,
-}
-
-#[repr(C)]
-pub struct OptionCalParamResp {
-    pub some: bool,
-    pub value: CalParamResp,
-}
-
-#[repr(C)]
-pub struct OptionAvrConfigResp {
-    pub some: bool,
-    pub value: AvrConfigResp,
-}
-
-// The stored replies.
-#[repr(C)]
-pub struct AvrReplies {
-    pub status: OptionAvrStatus,
-    pub dev_info: OptionDevInfoResp,
-    pub config: OptionConfigResp,
-    pub factory_cal: OptionCalDataResp,
-    pub if_cal: OptionCalParamResp,
-    pub avr_config: OptionAvrConfigResp,
-}
 
 // Where a start-up stands.
 pub struct AvrState {
@@ -110,33 +59,6 @@ pub struct AvrState {
 pub struct AvrMoved {
     pub action: Action,
     pub state: AvrState,
-}
-
-fn ask(command: Command) -> Action
-    ensures { λ r. ⌜ r ≡ sendTo BusAddr.Avr command ⌝ }
-{
-    Action::send(command, BusAddr::Avr)
-}
-
-// What is asked when a step begins; the wall seconds are for the time alone.
-fn request(step: AvrStep, wall: u64) -> Action
-    ensures { λ r. ⌜ r ≡ request step wall ⌝ }
-{
-    match step {
-        AvrStep::WaitStatus1 => status_poll(false, BusAddr::Avr),
-        AvrStep::WaitStatus2 => status_poll(false, BusAddr::Avr),
-        AvrStep::WaitDevInfo1 => ask(Command::DevInfoReq),
-        AvrStep::WaitDevInfo2 => ask(Command::DevInfoReq),
-        AvrStep::WaitParam0C => param_read_req(0x0C, BusAddr::Avr),
-        AvrStep::WaitParam0D => param_read_req(0x0D, BusAddr::Avr),
-        AvrStep::WaitConfig => ask(Command::ConfigQuery),
-        AvrStep::WaitFactoryCal => cal_data_req(),
-        AvrStep::WaitIfCal => ask(Command::CalParamReq),
-        AvrStep::WaitAvrConfig => ask(Command::AvrConfigQuery),
-        AvrStep::WaitParam64 => param_read_req(0x64, BusAddr::Avr),
-        AvrStep::WaitTimeSync => time_sync(wall),
-        AvrStep::Done => Action::none(),
-    }
 }
 
 impl AvrState {

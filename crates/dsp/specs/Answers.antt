@@ -14,11 +14,11 @@ use Rattle.device.specs.Sends.{poll}
 use Rattle.sequence.specs.Accepted.{feedOutcome, checkOutcome, resultRefusals}
 use Rattle.sequence.specs.Events.{Envelope, Event, fed, checked, reading}
 use Rattle.sequence.specs.Rows.{judged}
-use Rattle.dsp_steps.specs.declared.DspStep.{DspStep}
-use Rattle.dsp_steps.specs.declared.DspStep.the-variants.{WaitStatus, WaitDspQuery, WaitDevInfo, WaitProdInfo0, WaitProdInfo1, WaitProdInfo2, WaitConfig, WaitPowerMode, Done}
-use Rattle.dsp_steps.specs.declared.DspReplies.{DspReplies}
+use Rattle.dsp_table.specs.declared.DspStep.{DspStep}
+use Rattle.dsp_table.specs.declared.DspStep.the-variants.{WaitStatus, WaitDspQuery, WaitDevInfo, WaitProdInfo0, WaitProdInfo1, WaitProdInfo2, WaitConfig, WaitPowerMode, Done}
+use Rattle.dsp_table.specs.declared.DspReplies.{DspReplies}
 use Rattle.dsp_steps.specs.declared.DspMoved.{DspMoved}
-use Rattle.dsp_steps.specs.Stores.{noReplies}
+use Rattle.dsp_table.specs.Stores.{noReplies}
 use Rattle.dsp_steps.specs.Answers as steps
 use Rattle.dsp.specs.declared.DspSync.{DspSync}
 use Rattle.dsp.specs.declared.DspSequencer.{DspSequencer}

@@ -4,13 +4,15 @@
 ghost use mathlib.Core.Path.{_≡_};
 ghost use denote.Ref.{now as held};
 ghost use Rattle.protocol.specs.declared.Outcome.{Outcome};
+ghost use Rattle.protocol.specs.Action.{noAction};
+ghost use Rattle.sequence.specs.Rows.{judged};
 ghost use Rattle.dsp.specs.Answers.{begun, fedTo, polled, accepted, refused, syncOf, finished, taken};
 use device::model::DeviceModel;
 use dsp_steps::DspMoved;
-use dsp_steps::DspReplies;
 use dsp_steps::DspState;
-use dsp_steps::DspStep;
-use dsp_steps::OptionDspQueryResp;
+use dsp_table::DspReplies;
+use dsp_table::DspStep;
+use dsp_table::OptionDspQueryResp;
 use protocol::Action;
 use protocol::BusAddr;
 use protocol::Command;
@@ -95,30 +97,43 @@ fn result(outcome: Outcome, replies: DspReplies) -> DspFinished
     }
 }
 
-fn accepted(moved: DspMoved, now: u64) -> DspFed
-    ensures { λ r. ⌜ r ≡ accepted moved now ⌝ }
+// Nothing is sent, and nothing changes.
+fn idle(state: DspState) -> DspMoved
+    ensures { λ r. ⌜ r ≡ record { action = noAction; state = state } ⌝ }
 {
-    let action = moved.action;
-    let state = moved.state;
-    DspFed {
-        outcome: Outcome::Accepted,
+    let action = Action::none();
+    DspMoved {
         action: action,
-        seq: DspSequencer {
-            state: state,
-            last: now,
-        },
+        state: state,
     }
 }
 
 impl DspSequencer {
-    fn refuse(self, refusal: Refusal) -> DspFed
-        ensures { λ r. ⌜ r ≡ refused self (Outcome.Refused refusal) ⌝ }
+    // What a call answers: what it has moved if it is accepted, else its refusal, and nothing has changed.
+    fn judged(self, outcome: Outcome, moved: DspMoved, now: u64) -> DspFed
+        ensures { λ r. ⌜ r ≡ judged outcome (accepted moved now) (refused self) ⌝ }
     {
-        let action = Action::none();
-        DspFed {
-            outcome: Outcome::Refused(refusal),
-            action: action,
-            seq: self,
+        match outcome {
+            Outcome::Accepted => {
+                let action = moved.action;
+                let state = moved.state;
+                return DspFed {
+                    outcome: outcome,
+                    action: action,
+                    seq: DspSequencer {
+                        state: state,
+                        last: now,
+                    },
+                };
+            }
+            Outcome::Refused(_) => {
+                let action = Action::none();
+                return DspFed {
+                    outcome: outcome,
+                    action: action,
+                    seq: self,
+                };
+            }
         }
     }
 
@@ -152,41 +167,20 @@ impl DspSequencer {
         ensures { λ r. ⌜ r ≡ fedTo self (record { src = src; type-id = «type_id»; message = message; params = params; text = held (text .entry); payload = held (payload .entry) }) now ⌝ }
     {
         let outcome = sequence::accept_feed(text, payload, self.last, now);
-        match outcome {
-            Outcome::Accepted => match src {
-                BusAddr::Dsp => {
-                    let state = self.state;
-                    return accepted(
-                        state.feed(type_id, message, params, text, payload, now),
-                        now,
-                    );
-                }
-                _ => {
-                    let mut seq = self;
-                    seq.last = now;
-                    let action = Action::none();
-                    return DspFed {
-                        outcome: Outcome::Accepted,
-                        action: action,
-                        seq: seq,
-                    };
-                }
-            },
-            Outcome::Refused(refusal) => return self.refuse(refusal),
-        }
+        let state = self.state;
+        let moved = match src {
+            BusAddr::Dsp => state.feed(type_id, message, params, text, payload, now),
+            _ => idle(state),
+        };
+        self.judged(outcome, moved, now)
     }
 
     pub fn check_timeout(self, now: u64) -> DspFed
         ensures { λ r. ⌜ r ≡ polled self now ⌝ }
     {
         let outcome = sequence::accept_check(self.last, now);
-        match outcome {
-            Outcome::Accepted => {
-                let state = self.state;
-                return accepted(state.check(now), now);
-            }
-            Outcome::Refused(refusal) => return self.refuse(refusal),
-        }
+        let state = self.state;
+        self.judged(outcome, state.check(now), now)
     }
 
     // The result, once Done.

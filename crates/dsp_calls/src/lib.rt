@@ -3,7 +3,7 @@ mod stored;
 
 use dsp::DspFed;
 use dsp::DspSequencer;
-use dsp_steps::DspStep;
+use dsp_table::DspStep;
 use protocol::Outcome;
 use reading::call::Call;
 use reading::call::Calls;

@@ -1,8 +1,8 @@
 // Writes what a DSP start-up stores.
 use dsp::DspSync;
-use dsp_steps::DspReplies;
-use dsp_steps::OptionDspQueryResp;
-use dsp_steps::OptionDspStatus;
+use dsp_table::DspReplies;
+use dsp_table::OptionDspQueryResp;
+use dsp_table::OptionDspStatus;
 use protocol::OptionNack;
 use sequence::OptionInstant;
 use writing::fields;

@@ -22,9 +22,9 @@ use Rattle.matching.proofs.Leftmost.{leftmost-matching, leftmost-earliest, earl
 use Rattle.sequence.specs.Events.{Envelope, Event, checked, reading}
 use Rattle.sequence.specs.Calls.{feed, check, ask}
 use Rattle.sequence.proofs.Standing.{table-antitone}
-use Rattle.dsp_steps.specs.declared.DspStep.{DspStep}
-use Rattle.dsp_steps.specs.Stores.{noHwInfo}
-use Rattle.dsp_steps.specs.Table.{row, next, stepsFor, table}
+use Rattle.dsp_table.specs.declared.DspStep.{DspStep}
+use Rattle.dsp_table.specs.Stores.{noHwInfo}
+use Rattle.dsp_table.specs.Table.{row, next, stepsFor, table}
 use Rattle.dsp.specs.declared.DspSequencer.{DspSequencer}
 use Rattle.dsp.specs.declared.DspFinished.{DspFinished}
 use Rattle.dsp.specs.Answers.{begun, finished, taken, noSync, isDone}

@@ -29,11 +29,11 @@ use Rattle.sequence.specs.Rows.{test, passes, ticked, idle}
 use Rattle.sequence.specs.Calls.{feed, check, ask}
 use Rattle.sequence.proofs.Acceptance.{accepted, feed-accepted, check-accepted, feed-fits}
 use Rattle.sequence.proofs.Standing as rows
-use Rattle.dsp_steps.specs.declared.DspStep.{DspStep}
-use Rattle.dsp_steps.specs.declared.DspStep.the-variants.{WaitStatus, WaitDspQuery, WaitDevInfo, WaitProdInfo0, WaitProdInfo1, WaitProdInfo2, WaitConfig, WaitPowerMode, Done}
+use Rattle.dsp_table.specs.declared.DspStep.{DspStep}
+use Rattle.dsp_table.specs.declared.DspStep.the-variants.{WaitStatus, WaitDspQuery, WaitDevInfo, WaitProdInfo0, WaitProdInfo1, WaitProdInfo2, WaitConfig, WaitPowerMode, Done}
 use Rattle.dsp_steps.specs.declared.DspState.{DspState}
 use Rattle.dsp_steps.specs.declared.DspMoved.{DspMoved}
-use Rattle.dsp_steps.specs.Table.{row, next, stepsFor, table, entry3}
+use Rattle.dsp_table.specs.Table.{row, next, stepsFor, table, entry3}
 use Rattle.dsp_steps.specs.Answers.{view, made, advance, armAt}
 use Rattle.dsp_steps.proofs.Rows.{at-step}
 use Rattle.dsp.specs.declared.DspSequencer.{DspSequencer}

@@ -22,11 +22,11 @@ use Rattle.sequence.specs.Calls.{feed, check, ask}
 use Rattle.sequence.proofs.Acceptance.{feed-accepted, check-accepted, feed-fits, check-fits}
 use Rattle.sequence.proofs.Events.{rises, judge}
 use Rattle.sequence.proofs.Standing as rows
-use Rattle.dsp_steps.specs.declared.DspStep.{DspStep}
-use Rattle.dsp_steps.specs.declared.DspStep.the-variants.{WaitStatus, WaitDspQuery, WaitDevInfo, WaitProdInfo0, WaitProdInfo1, WaitProdInfo2, WaitConfig, WaitPowerMode, Done}
-use Rattle.dsp_steps.specs.declared.DspReplies.{DspReplies}
-use Rattle.dsp_steps.specs.Stores.{noReplies}
-use Rattle.dsp_steps.specs.Table.{row, next, stepsFor, table}
+use Rattle.dsp_table.specs.declared.DspStep.{DspStep}
+use Rattle.dsp_table.specs.declared.DspStep.the-variants.{WaitStatus, WaitDspQuery, WaitDevInfo, WaitProdInfo0, WaitProdInfo1, WaitProdInfo2, WaitConfig, WaitPowerMode, Done}
+use Rattle.dsp_table.specs.declared.DspReplies.{DspReplies}
+use Rattle.dsp_table.specs.Stores.{noReplies}
+use Rattle.dsp_table.specs.Table.{row, next, stepsFor, table}
 use Rattle.dsp_steps.specs.Answers.{unview}
 use Rattle.dsp.specs.declared.DspSequencer.{DspSequencer}
 use Rattle.dsp.specs.declared.DspFed.{DspFed}

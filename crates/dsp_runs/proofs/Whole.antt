@@ -25,9 +25,9 @@ use Rattle.sequence.specs.Events.{Envelope, Event, checked, reading}
 use Rattle.sequence.specs.Calls.{feed, check, ask}
 use Rattle.sequence.proofs.Events.{few}
 use Rattle.sequence.proofs.Standing as rows
-use Rattle.dsp_steps.specs.declared.DspStep.{DspStep}
-use Rattle.dsp_steps.specs.Stores.{nackIn}
-use Rattle.dsp_steps.specs.Table.{row, next, stepsFor, table}
+use Rattle.dsp_table.specs.declared.DspStep.{DspStep}
+use Rattle.dsp_table.specs.Stores.{nackIn}
+use Rattle.dsp_table.specs.Table.{row, next, stepsFor, table}
 use Rattle.dsp.specs.declared.DspSequencer.{DspSequencer}
 use Rattle.dsp.specs.declared.DspFinished.{DspFinished}
 use Rattle.dsp.specs.Answers.{begun, noSync, finished, taken, isDone}

@@ -17,9 +17,9 @@ use Rattle.sequence.specs.Events.{Envelope, Event, fed, checked, reading}
 use Rattle.sequence.specs.Calls.{ask}
 use Rattle.sequence.specs.Replies.{devInfoIn, configIn}
 use Rattle.sequence.specs.Rows.{test}
-use Rattle.dsp_steps.specs.declared.DspStep.{DspStep}
-use Rattle.dsp_steps.specs.Stores.{fromDsp, statusIn, hwInfoIn, prodInfoIn, nackIn, unansweredIn, noHwInfo}
-use Rattle.dsp_steps.specs.Table.{entry1, entry2, entry3, table}
+use Rattle.dsp_table.specs.declared.DspStep.{DspStep}
+use Rattle.dsp_table.specs.Stores.{fromDsp, statusIn, hwInfoIn, prodInfoIn, nackIn, unansweredIn, noHwInfo}
+use Rattle.dsp_table.specs.Table.{entry1, entry2, entry3, table}
 use Rattle.dsp.specs.declared.DspSync.{DspSync}
 use Rattle.dsp.specs.Answers.{begun, finished, taken, noSync}
 use Rattle.dsp.specs.Calls.{DspCall, into-result, take-refused, after, event, takes}

@@ -17,14 +17,14 @@ use Rattle.device.specs.declared.model.DeviceModel.{DeviceModel}
 use Rattle.sequence.specs.Events.{Envelope, Event, forever}
 use Rattle.sequence.specs.Rows.{idle, ticked, passes}
 use Rattle.sequence.proofs.Arms.{at-ticks, at-idles}
-use Rattle.dsp_steps.specs.declared.DspStep.{DspStep}
-use Rattle.dsp_steps.specs.declared.DspStep.the-variants.{WaitStatus, WaitDspQuery, WaitDevInfo, WaitProdInfo0, WaitProdInfo1, WaitProdInfo2, WaitConfig, WaitPowerMode, Done}
+use Rattle.dsp_table.specs.declared.DspStep.{DspStep}
+use Rattle.dsp_table.specs.declared.DspStep.the-variants.{WaitStatus, WaitDspQuery, WaitDevInfo, WaitProdInfo0, WaitProdInfo1, WaitProdInfo2, WaitConfig, WaitPowerMode, Done}
 use Rattle.dsp_steps.specs.declared.DspState.{DspState}
-use Rattle.dsp_steps.specs.declared.DspReplies.{DspReplies}
-use Rattle.dsp_steps.specs.Stores.{store, prodInfoIn}
-use Rattle.dsp_steps.specs.Table.{DspRow, row, next, request}
+use Rattle.dsp_table.specs.declared.DspReplies.{DspReplies}
+use Rattle.dsp_table.specs.Stores.{store, prodInfoIn}
+use Rattle.dsp_table.specs.Table.{DspRow, row, next, request}
 use Rattle.dsp_steps.specs.Answers.{view, made, advance, armAt}
-use Rattle.dsp_steps.proofs.DspStep as step
+use Rattle.dsp_table.proofs.DspStep as step
 
 -- the row at the step decides
 pub at-step : (m : DeviceModel) (s : DspState) (e : Event Envelope) (k : DspStep) → s .step ≡ k
@@ -52,30 +52,6 @@ no-wait m WaitProdInfo2 h = refl
 no-wait m WaitConfig h = refl
 no-wait m WaitPowerMode h = absurd (miss (0 ∷ 2 ∷ 3 ∷ 4 ∷ 5 ∷ 6 ∷ 8 ∷ []) 7 tt h)
 no-wait m Done h = refl
-
--- two steps ask nothing of their own
-pub no-command : (k : DspStep) → OneOf (0 ∷ 8 ∷ []) (Declared.tagOf step.the-type k) → Command.StatusPoll (record { «pi_mode» = false }) ≡ request k .command
-no-command WaitStatus h = refl
-no-command WaitDspQuery h = absurd (miss (0 ∷ 8 ∷ []) 1 tt h)
-no-command WaitDevInfo h = absurd (miss (0 ∷ 8 ∷ []) 2 tt h)
-no-command WaitProdInfo0 h = absurd (miss (0 ∷ 8 ∷ []) 3 tt h)
-no-command WaitProdInfo1 h = absurd (miss (0 ∷ 8 ∷ []) 4 tt h)
-no-command WaitProdInfo2 h = absurd (miss (0 ∷ 8 ∷ []) 5 tt h)
-no-command WaitConfig h = absurd (miss (0 ∷ 8 ∷ []) 6 tt h)
-no-command WaitPowerMode h = absurd (miss (0 ∷ 8 ∷ []) 7 tt h)
-no-command Done h = refl
-
--- every step but the last sends its command
-pub asked : (k : DspStep) → OneOf (0 ∷ 1 ∷ 2 ∷ 3 ∷ 4 ∷ 5 ∷ 6 ∷ 7 ∷ []) (Declared.tagOf step.the-type k) → sendTo BusAddr.Dsp (request k .command) ≡ request k
-asked WaitStatus h = refl
-asked WaitDspQuery h = refl
-asked WaitDevInfo h = refl
-asked WaitProdInfo0 h = refl
-asked WaitProdInfo1 h = refl
-asked WaitProdInfo2 h = refl
-asked WaitConfig h = refl
-asked WaitPowerMode h = refl
-asked Done h = absurd (miss (0 ∷ 1 ∷ 2 ∷ 3 ∷ 4 ∷ 5 ∷ 6 ∷ 7 ∷ []) 8 tt h)
 
 -- entries 4 to 6 store a product info, each in its own place
 pub stores-prod-info : (i : ℕ) (e : Event Envelope) (y : DspReplies) → i < 3

@@ -9,12 +9,12 @@ use Rattle.device.specs.declared.model.DeviceModel.{DeviceModel}
 use Rattle.device.specs.Model.{modelIn}
 use Rattle.sequence.specs.Events.{Envelope, Event, fed}
 use Rattle.sequence.specs.Rows.{State, Moved, noDeadline, heardAt, heard}
-use Rattle.dsp_steps.specs.declared.DspStep.{DspStep}
-use Rattle.dsp_steps.specs.declared.DspReplies.{DspReplies}
+use Rattle.dsp_table.specs.declared.DspStep.{DspStep}
+use Rattle.dsp_table.specs.declared.DspReplies.{DspReplies}
 use Rattle.dsp_steps.specs.declared.DspState.{DspState}
 use Rattle.dsp_steps.specs.declared.DspMoved.{DspMoved}
-use Rattle.dsp_steps.specs.Stores.{noReplies}
-use Rattle.dsp_steps.specs.Table.{DspRow, row, next}
+use Rattle.dsp_table.specs.Stores.{noReplies}
+use Rattle.dsp_table.specs.Table.{DspRow, row, next}
 
 abbrev pub begun : DspState
 begun = record { step = DspStep.WaitStatus; replies = noReplies; deadline = noDeadline }

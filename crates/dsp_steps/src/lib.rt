@@ -8,14 +8,18 @@ ghost use Rattle.protocol.specs.Carried.{noDspStatus};
 ghost use Rattle.device.specs.Model.{modelIn};
 ghost use Rattle.sequence.specs.Events.{checked};
 ghost use Rattle.sequence.specs.Rows.{idle, past, noDeadline};
-ghost use Rattle.dsp_steps.specs.declared.DspStep.{DspStep};
-ghost use Rattle.dsp_steps.specs.Stores.{statusReply, noReplies};
-ghost use Rattle.dsp_steps.specs.Table.{entry1, entry2, entry3, entry4, entry7, entry8, prodInfo, next, row, request};
+ghost use Rattle.dsp_table.specs.declared.DspStep.{DspStep};
+ghost use Rattle.dsp_table.specs.Stores.{statusReply, noReplies};
+ghost use Rattle.dsp_table.specs.Table.{entry1, entry2, entry3, entry4, entry7, entry8, prodInfo, next, row, request};
 ghost use Rattle.dsp_steps.specs.Answers.{begun, view, made, answered, sent, armAt};
 use device::model::DeviceModel;
+use dsp_table::DspReplies;
+use dsp_table::DspStep;
+use dsp_table::OptionDspQueryResp;
+use dsp_table::OptionDspStatus;
+use dsp_table::request;
 use protocol::Action;
 use protocol::BusAddr;
-use protocol::Command;
 use protocol::ConfigResp;
 use protocol::DevInfoResp;
 use protocol::DspQueryResp;
@@ -25,11 +29,7 @@ use protocol::Message;
 use protocol::OptionConfigResp;
 use protocol::OptionDevInfoResp;
 use protocol::OptionNack;
-use protocol::ParamData;
-use protocol::ParamValue;
-use protocol::ProdInfoReq;
 use protocol::ProdInfoResp;
-use protocol::StatusPoll;
 use protocol::Stored;
 use sequence::OptionInstant;
 
@@ -40,49 +40,6 @@ const DSP_QUERY_TIMEOUT: u64 = 2_000_000_000;
 const DSP_QUERY: u8 = 0x48;
 
 const PARAM_VALUE: u8 = 0x3F;
-
-// The power mode (param 0x01 of the Xi's DSP), and its value Normal.
-const XI_DSP_POWER_MODE_ID: u8 = 0x01;
-
-const XI_DSP_POWER_MODE_NORMAL: i32 = 1;
-
-pub enum DspStep {
-    WaitStatus,
-    WaitDspQuery,
-    WaitDevInfo,
-    WaitProdInfo0,
-    WaitProdInfo1,
-    WaitProdInfo2,
-    WaitConfig,
-    // Xi only
-    WaitPowerMode,
-    Done,
-}
-
-// A status; `payload` is that of a V46.
-pub struct OptionDspStatus {
-    pub some: bool,
-    pub value: DspStatus,
-    pub payload: Stored,
-}
-
-#[repr(C)]
-pub struct OptionDspQueryResp {
-    pub some: bool,
-    pub value: DspQueryResp,
-}
-
-// The stored replies. Product infos that haven't come are empty.
-pub struct DspReplies {
-    pub status: OptionDspStatus,
-    pub hw_info: OptionDspQueryResp,
-    pub dev_info: OptionDevInfoResp,
-    pub prod_info: [ProdInfoResp; 3],
-    pub config: OptionConfigResp,
-    // the nack that ended the power-mode write, not yet taken
-    pub refused: OptionNack,
-    pub power_mode_unanswered: bool,
-}
 
 // Where a start-up stands.
 pub struct DspState {
@@ -115,43 +72,41 @@ fn no_status() -> DspStatus
     })
 }
 
-impl DspReplies {
-    fn none() -> DspReplies
-        ensures { λ r. ⌜ r ≡ noReplies ⌝ }
-    {
-        let bytes = Stored::empty();
-        let status = no_status();
-        let prod_info = ProdInfoResp { text: bytes };
-        let refused = OptionNack::none();
-        DspReplies {
-            status: OptionDspStatus {
-                some: false,
-                value: status,
+fn no_replies() -> DspReplies
+    ensures { λ r. ⌜ r ≡ noReplies ⌝ }
+{
+    let bytes = Stored::empty();
+    let status = no_status();
+    let prod_info = ProdInfoResp { text: bytes };
+    let refused = OptionNack::none();
+    DspReplies {
+        status: OptionDspStatus {
+            some: false,
+            value: status,
+            payload: bytes,
+        },
+        hw_info: OptionDspQueryResp {
+            some: false,
+            value: DspQueryResp {
+                version: 0,
+                dsp_type: 0,
+                pcb: 0,
+            },
+        },
+        dev_info: OptionDevInfoResp {
+            some: false,
+            value: DevInfoResp {
+                text: bytes,
                 payload: bytes,
             },
-            hw_info: OptionDspQueryResp {
-                some: false,
-                value: DspQueryResp {
-                    version: 0,
-                    dsp_type: 0,
-                    pcb: 0,
-                },
-            },
-            dev_info: OptionDevInfoResp {
-                some: false,
-                value: DevInfoResp {
-                    text: bytes,
-                    payload: bytes,
-                },
-            },
-            prod_info: [prod_info; 3],
-            config: OptionConfigResp {
-                some: false,
-                value: ConfigResp { params: [0i16; 34] },
-            },
-            refused: refused,
-            power_mode_unanswered: false,
-        }
+        },
+        prod_info: [prod_info; 3],
+        config: OptionConfigResp {
+            some: false,
+            value: ConfigResp { params: [0i16; 34] },
+        },
+        refused: refused,
+        power_mode_unanswered: false,
     }
 }
 
@@ -177,39 +132,6 @@ fn status_reply(status: DspStatus, payload: &[u8]) -> OptionDspStatus
                 payload: bytes,
             }
         }
-    }
-}
-
-// ---- what is asked
-
-// The command of a step's request. A new start-up polls (crate dsp); at Done, where nothing is sent, it is that of an absent send.
-fn command(step: DspStep) -> Command
-    ensures { λ r. ⌜ r ≡ request step .command ⌝ }
-{
-    match step {
-        DspStep::WaitDspQuery => return Command::DspQuery,
-        DspStep::WaitDevInfo => return Command::DevInfoReq,
-        DspStep::WaitProdInfo0 => return Command::ProdInfoReq(ProdInfoReq { sub_query: 0x00 }),
-        DspStep::WaitProdInfo1 => return Command::ProdInfoReq(ProdInfoReq { sub_query: 0x08 }),
-        DspStep::WaitProdInfo2 => return Command::ProdInfoReq(ProdInfoReq { sub_query: 0x09 }),
-        DspStep::WaitConfig => return Command::ConfigQuery,
-        DspStep::WaitPowerMode => {
-            return Command::ParamValue(ParamValue {
-                param_id: XI_DSP_POWER_MODE_ID,
-                value: ParamData::Int24(XI_DSP_POWER_MODE_NORMAL),
-            });
-        }
-        _ => return Command::StatusPoll(StatusPoll { pi_mode: false }),
-    }
-}
-
-// What is asked when a step begins.
-fn request(step: DspStep) -> Action
-    ensures { λ r. ⌜ r ≡ request step ⌝ }
-{
-    match step {
-        DspStep::Done => return Action::none(),
-        _ => return Action::send(command(step), BusAddr::Dsp),
     }
 }
 
@@ -240,7 +162,7 @@ impl DspState {
     pub fn new() -> DspState
         ensures { λ r. ⌜ r ≡ begun ⌝ }
     {
-        let replies = DspReplies::none();
+        let replies = no_replies();
         let deadline = OptionInstant::none();
         DspState {
             step: DspStep::WaitStatus,

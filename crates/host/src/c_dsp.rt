@@ -21,7 +21,7 @@ use dsp::DspFed;
 use dsp::DspSequencer;
 use dsp::DspStarted;
 use dsp::DspSync;
-use dsp_steps::OptionDspQueryResp;
+use dsp_table::OptionDspQueryResp;
 use protocol::Action;
 use protocol::ConfigResp;
 use protocol::DevInfoResp;

@@ -18,7 +18,7 @@ use Rattle.device.specs.Model.{modelOf}
 use Rattle.device.specs.Sends.{resultAck}
 use Rattle.protocol.specs.Carried.{noAvrStatus}
 use Rattle.sequence.specs.Events.{Envelope, Event, fed, plain}
-use Rattle.avr_steps.specs.Stores.{Dated}
+use Rattle.avr_table.specs.Stores.{Dated}
 use Rattle.avr.specs.declared.AvrSequencer.{AvrSequencer}
 use Rattle.avr.specs.Answers as avr
 use Rattle.pi.specs.Stores.{ssidIn, passwordIn}

@@ -5,8 +5,8 @@ use mathlib.Core.Bool.{true, false}
 use Rattle.sequence.specs.Events.{checked}
 use Rattle.sequence.specs.Rows.{past, reached}
 use Rattle.sequence.proofs.Arms.{not-true, not-false}
-use Rattle.avr_steps.specs.declared.AvrStep.{AvrStep}
-use Rattle.avr_steps.specs.Table.{row, next}
+use Rattle.avr_table.specs.declared.AvrStep.{AvrStep}
+use Rattle.avr_table.specs.Table.{row, next}
 use Rattle.avr_steps.proofs.Rows.{ticks, quiet, cleared, at-check, no-wait, no-wait-after}
 use borrow.Author.Needs.{needs}
 use Rattle.avr_steps.proofs.AvrState.check_cal.Statement.{statement}

@@ -4,7 +4,7 @@ use mathlib.Core.Path.{refl, _∙_}
 use denote.Ref.{now}
 use Rattle.sequence.specs.Events.{fed}
 use Rattle.sequence.specs.Rows.{past}
-use Rattle.avr_steps.specs.declared.AvrStep.{AvrStep}
+use Rattle.avr_table.specs.declared.AvrStep.{AvrStep}
 use Rattle.avr_steps.proofs.Rows.{dated, idles, at-poll, at-later}
 use borrow.Author.Needs.{needs}
 use Rattle.avr_steps.proofs.AvrState.feed.Statement.{statement}

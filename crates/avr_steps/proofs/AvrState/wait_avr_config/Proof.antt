@@ -5,8 +5,8 @@ use mathlib.Core.List.{[]}
 use denote.Ref.{now}
 use Rattle.protocol.proofs.Arms.{other}
 use Rattle.sequence.specs.Rows.{past}
-use Rattle.avr_steps.specs.declared.AvrStep.{AvrStep}
-use Rattle.avr_steps.specs.Table.{row}
+use Rattle.avr_table.specs.declared.AvrStep.{AvrStep}
+use Rattle.avr_table.specs.Table.{row}
 use Rattle.avr_steps.specs.Answers.{sent}
 use Rattle.avr_steps.proofs.Rows.{idles}
 use borrow.Author.Needs.{needs}

@@ -5,7 +5,7 @@ use mathlib.Core.List.{[]}
 use denote.Ref.{now}
 use Rattle.protocol.proofs.Arms.{other}
 use Rattle.sequence.specs.Rows.{past}
-use Rattle.avr_steps.specs.Table.{devInfoRow, request}
+use Rattle.avr_table.specs.Table.{devInfoRow, request}
 use Rattle.avr_steps.specs.Answers.{sent}
 use Rattle.avr_steps.proofs.Rows.{idles}
 use borrow.Author.Needs.{needs}

@@ -4,7 +4,7 @@ use mathlib.Core.Path.{_∙_}
 use mathlib.Core.List.{[]}
 use Rattle.protocol.proofs.Arms.{other}
 use Rattle.sequence.specs.Rows.{past}
-use Rattle.avr_steps.specs.Table.{paramRow, request}
+use Rattle.avr_table.specs.Table.{paramRow, request}
 use Rattle.avr_steps.specs.Answers.{sent}
 use Rattle.avr_steps.proofs.Rows.{idles}
 use borrow.Author.Needs.{needs}

@@ -5,9 +5,9 @@ use mathlib.Core.Bool.{false}
 use mathlib.Core.List.{[], _∷_}
 use types.Run.{OneOf, miss}
 use denote.Enum.Declared as Declared
-use Rattle.dsp_steps.specs.declared.DspStep.{DspStep}
-use Rattle.dsp_steps.specs.declared.DspStep.the-variants.{WaitStatus, WaitDspQuery, WaitDevInfo, WaitProdInfo0, WaitProdInfo1, WaitProdInfo2, WaitConfig, WaitPowerMode, Done}
-use Rattle.dsp_steps.proofs.DspStep as step
+use Rattle.dsp_table.specs.declared.DspStep.{DspStep}
+use Rattle.dsp_table.specs.declared.DspStep.the-variants.{WaitStatus, WaitDspQuery, WaitDevInfo, WaitProdInfo0, WaitProdInfo1, WaitProdInfo2, WaitConfig, WaitPowerMode, Done}
+use Rattle.dsp_table.proofs.DspStep as step
 use Rattle.dsp.specs.Answers.{isDone}
 use borrow.Author.Needs.{needs}
 use Rattle.dsp.proofs.DspSequencer.into_result.Statement.{statement}

@@ -6,8 +6,8 @@ use Rattle.sequence.specs.Events.{checked}
 use Rattle.sequence.specs.Rows.{past, reached}
 use Rattle.sequence.proofs.Arms.{not-true, not-false, unreached, waitless}
 use Rattle.device.specs.Model.{modelIn}
-use Rattle.dsp_steps.specs.declared.DspStep.{DspStep}
-use Rattle.dsp_steps.specs.Table.{entry2, entry3, entry8, row, next}
+use Rattle.dsp_table.specs.declared.DspStep.{DspStep}
+use Rattle.dsp_table.specs.Table.{entry2, entry3, entry8, row, next}
 use Rattle.dsp_steps.proofs.Rows.{at-step, idles, ticks, no-wait}
 use borrow.Author.Needs.{needs}
 use Rattle.dsp_steps.proofs.DspState.check.Statement.{statement}

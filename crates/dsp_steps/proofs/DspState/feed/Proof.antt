@@ -3,7 +3,7 @@
 use mathlib.Core.Path.{_∙_}
 use denote.Ref.{now}
 use Rattle.device.specs.Model.{modelIn}
-use Rattle.dsp_steps.specs.declared.DspStep.{DspStep}
+use Rattle.dsp_table.specs.declared.DspStep.{DspStep}
 use Rattle.dsp_steps.specs.Answers.{sent}
 use Rattle.dsp_steps.proofs.Rows.{at-step}
 use borrow.Author.Needs.{needs}

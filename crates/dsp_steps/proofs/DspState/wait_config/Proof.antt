@@ -6,8 +6,8 @@ use mathlib.Core.List.{[]}
 use Rattle.protocol.proofs.Arms.{other}
 use Rattle.device.specs.declared.model.DeviceModel.{DeviceModel}
 use Rattle.device.specs.Model.{modelIn, hasPowerMode}
-use Rattle.dsp_steps.specs.declared.DspStep.{DspStep}
-use Rattle.dsp_steps.specs.Table.{entry7, next, row}
+use Rattle.dsp_table.specs.declared.DspStep.{DspStep}
+use Rattle.dsp_table.specs.Table.{entry7, next, row}
 use Rattle.dsp_steps.specs.Answers.{sent}
 use Rattle.dsp_steps.proofs.Rows.{idles}
 use borrow.Author.Needs.{needs}

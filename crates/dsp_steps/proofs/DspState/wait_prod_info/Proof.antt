@@ -5,7 +5,7 @@ use mathlib.Core.List.{[]}
 use denote.Ref.{now}
 use Rattle.protocol.proofs.Arms.{other}
 use Rattle.sequence.specs.Rows.{past}
-use Rattle.dsp_steps.specs.Table.{prodInfo, request}
+use Rattle.dsp_table.specs.Table.{prodInfo, request}
 use Rattle.dsp_steps.specs.Answers.{sent}
 use Rattle.dsp_steps.proofs.Rows.{idles, ticks, stores-prod-info}
 use borrow.Author.Needs.{needs}

@@ -4,8 +4,8 @@ use mathlib.Core.Path.{_∙_}
 use mathlib.Core.List.{[]}
 use denote.Ref.{now}
 use Rattle.protocol.proofs.Arms.{other}
-use Rattle.dsp_steps.specs.declared.DspStep.{DspStep}
-use Rattle.dsp_steps.specs.Table.{entry1, entry2}
+use Rattle.dsp_table.specs.declared.DspStep.{DspStep}
+use Rattle.dsp_table.specs.Table.{entry1, entry2}
 use Rattle.dsp_steps.specs.Answers.{sent}
 use Rattle.dsp_steps.proofs.Rows.{idles}
 use borrow.Author.Needs.{needs}

@@ -3,10 +3,10 @@
 use mathlib.Core.Path.{ap, _∙_}
 use Rattle.protocol.specs.declared.BusAddr.{BusAddr}
 use Rattle.protocol.specs.Action.{sendTo}
-use Rattle.dsp_steps.proofs.Rows.{asked}
+use Rattle.dsp_table.proofs.Requests.{asked}
 use borrow.Author.Needs.{needs}
-use Rattle.dsp_steps.proofs.request.Statement.{statement}
-use Rattle.dsp_steps.proofs.request.Tie as tie
+use Rattle.dsp_table.proofs.request.Statement.{statement}
+use Rattle.dsp_table.proofs.request.Tie as tie
 
 returns-2 : tie.Need-returns-2
 returns-2 c = c .send .ensures ∙ ap (sendTo BusAddr.Dsp) (c .before .command .ensures) ∙ asked (c .before .before .before .args .step) (c .before .before .match .keys2)

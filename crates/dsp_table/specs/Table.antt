@@ -15,10 +15,10 @@ use Rattle.device.specs.Sends.{poll}
 use Rattle.matching.specs.Matching.{Table}
 use Rattle.sequence.specs.Events.{Envelope, Event, forever, nanos, acking, either}
 use Rattle.sequence.specs.Rows.{Row, test, past}
-use Rattle.dsp_steps.specs.declared.DspStep.{DspStep}
-use Rattle.dsp_steps.specs.declared.DspStep.the-variants.{WaitStatus, WaitDspQuery, WaitDevInfo, WaitProdInfo0, WaitProdInfo1, WaitProdInfo2, WaitConfig, WaitPowerMode, Done}
-use Rattle.dsp_steps.specs.declared.DspReplies.{DspReplies}
-use Rattle.dsp_steps.specs.Stores.{fromDsp, store, prodInfoReq, powerMode}
+use Rattle.dsp_table.specs.declared.DspStep.{DspStep}
+use Rattle.dsp_table.specs.declared.DspStep.the-variants.{WaitStatus, WaitDspQuery, WaitDevInfo, WaitProdInfo0, WaitProdInfo1, WaitProdInfo2, WaitConfig, WaitPowerMode, Done}
+use Rattle.dsp_table.specs.declared.DspReplies.{DspReplies}
+use Rattle.dsp_table.specs.Stores.{fromDsp, store, prodInfoReq, powerMode}
 
 abbrev pub DspRow : Type 0
 DspRow = Row Envelope DspReplies

@@ -1,9 +1,9 @@
 -- `command` meets its contract.
 -- Assumes nothing.
-use Rattle.dsp_steps.proofs.Rows.{no-command}
+use Rattle.dsp_table.proofs.Requests.{no-command}
 use borrow.Author.Needs.{needs}
-use Rattle.dsp_steps.proofs.command.Statement.{statement}
-use Rattle.dsp_steps.proofs.command.Tie as tie
+use Rattle.dsp_table.proofs.command.Statement.{statement}
+use Rattle.dsp_table.proofs.command.Tie as tie
 
 returns-3 : tie.Need-returns-3
 returns-3 c = rw (c .enum-told3 .given .1)

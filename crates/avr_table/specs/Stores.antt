@@ -14,11 +14,11 @@ use Rattle.sequence.specs.declared.OptionInstant.{OptionInstant}
 use Rattle.sequence.specs.Events.{Envelope, Event, fed, checked, kind}
 use Rattle.sequence.specs.Replies.{noDevInfo, noConfig, devInfoIn, configIn}
 use Rattle.sequence.specs.Rows.{noDeadline}
-use Rattle.avr_steps.specs.declared.OptionAvrStatus.{OptionAvrStatus}
-use Rattle.avr_steps.specs.declared.OptionCalDataResp.{OptionCalDataResp}
-use Rattle.avr_steps.specs.declared.OptionCalParamResp.{OptionCalParamResp}
-use Rattle.avr_steps.specs.declared.OptionAvrConfigResp.{OptionAvrConfigResp}
-use Rattle.avr_steps.specs.declared.AvrReplies.{AvrReplies}
+use Rattle.avr_table.specs.declared.OptionAvrStatus.{OptionAvrStatus}
+use Rattle.avr_table.specs.declared.OptionCalDataResp.{OptionCalDataResp}
+use Rattle.avr_table.specs.declared.OptionCalParamResp.{OptionCalParamResp}
+use Rattle.avr_table.specs.declared.OptionAvrConfigResp.{OptionAvrConfigResp}
+use Rattle.avr_table.specs.declared.AvrReplies.{AvrReplies}
 
 -- what a feed is handed: an envelope, and the wall seconds
 pub record Dated : Type 0 where

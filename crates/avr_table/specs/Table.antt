@@ -14,10 +14,10 @@ use Rattle.device.specs.Model.{hasFactoryCal}
 use Rattle.matching.specs.Matching.{Table}
 use Rattle.sequence.specs.Events.{Event, Wait, forever, nanos}
 use Rattle.sequence.specs.Rows.{Row, test, past}
-use Rattle.avr_steps.specs.declared.AvrStep.{AvrStep}
-use Rattle.avr_steps.specs.declared.AvrStep.the-variants.{WaitStatus1, WaitStatus2, WaitDevInfo1, WaitDevInfo2, WaitParam0C, WaitParam0D, WaitConfig, WaitFactoryCal, WaitIfCal, WaitAvrConfig, WaitParam64, WaitTimeSync, Done}
+use Rattle.avr_table.specs.declared.AvrStep.{AvrStep}
+use Rattle.avr_table.specs.declared.AvrStep.the-variants.{WaitStatus1, WaitStatus2, WaitDevInfo1, WaitDevInfo2, WaitParam0C, WaitParam0D, WaitConfig, WaitFactoryCal, WaitIfCal, WaitAvrConfig, WaitParam64, WaitTimeSync, Done}
 use Rattle.requests.specs.Requests.{calDataReq, timeSync}
-use Rattle.avr_steps.specs.Stores.{Dated, Held, fromAvr, store, statusPoll, paramReadReq, wallIn}
+use Rattle.avr_table.specs.Stores.{Dated, Held, fromAvr, store, statusPoll, paramReadReq, wallIn}
 
 abbrev pub AvrRow : Type 0
 AvrRow = Row Dated Held

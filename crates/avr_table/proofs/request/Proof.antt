@@ -2,8 +2,8 @@
 -- Assumes nothing.
 use mathlib.Core.Path.{_∙_}
 use borrow.Author.Needs.{needs}
-use Rattle.avr_steps.proofs.request.Statement.{statement}
-use Rattle.avr_steps.proofs.request.Tie as tie
+use Rattle.avr_table.proofs.request.Statement.{statement}
+use Rattle.avr_table.proofs.request.Tie as tie
 
 returns : tie.Need-returns
 returns c = c .status-poll .ensures ∙ rw (c .before .enum-told .given .1)

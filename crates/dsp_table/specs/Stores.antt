@@ -21,9 +21,9 @@ use Rattle.protocol.specs.Kinds.{configNack, dspQueryResp}
 use Rattle.protocol.specs.Stored.{stored}
 use Rattle.sequence.specs.Events.{Envelope, Event, fed, checked, kind}
 use Rattle.sequence.specs.Replies.{noDevInfo, noConfig, devInfoIn, configIn}
-use Rattle.dsp_steps.specs.declared.OptionDspStatus.{OptionDspStatus}
-use Rattle.dsp_steps.specs.declared.OptionDspQueryResp.{OptionDspQueryResp}
-use Rattle.dsp_steps.specs.declared.DspReplies.{DspReplies}
+use Rattle.dsp_table.specs.declared.OptionDspStatus.{OptionDspStatus}
+use Rattle.dsp_table.specs.declared.OptionDspQueryResp.{OptionDspQueryResp}
+use Rattle.dsp_table.specs.declared.DspReplies.{DspReplies}
 
 -- ---- what is absent
 
