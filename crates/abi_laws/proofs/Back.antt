@@ -31,8 +31,8 @@ use Rattle.dsp_table.specs.declared.DspStep.{DspStep}
 use Rattle.dsp_table.specs.declared.DspStep.the-variants as Dsp
 use Rattle.avr_table.specs.declared.AvrStep.{AvrStep}
 use Rattle.avr_table.specs.declared.AvrStep.the-variants as Avr
-use Rattle.pi.specs.declared.PiStep.{PiStep}
-use Rattle.pi.specs.declared.PiStep.the-variants as Pi
+use Rattle.pi_table.specs.declared.PiStep.{PiStep}
+use Rattle.pi_table.specs.declared.PiStep.the-variants as Pi
 use Rattle.avr_config.specs.declared.AvrConfigStep.{AvrConfigStep}
 use Rattle.avr_config.specs.declared.AvrConfigStep.the-variants as AvrConfig
 use Rattle.arm.specs.declared.ArmStep.{ArmStep}

@@ -6,8 +6,8 @@ use mathlib.Core.Bool.{true, false, cond}
 use mathlib.Core.List.{List, [], _∷_}
 use lib.Dec.{ltb}
 use lib.ListN.{getD}
-use Rattle.pi.specs.declared.PiStep.{PiStep}
-use Rattle.pi.specs.declared.PiStep.the-variants as Pi
+use Rattle.pi_table.specs.declared.PiStep.{PiStep}
+use Rattle.pi_table.specs.declared.PiStep.the-variants as Pi
 use Rattle.pi.specs.declared.PiSequencer.{PiSequencer}
 use Rattle.abi_pi.specs.declared.SomePiStep.{SomePiStep}
 use Rattle.abi_pi.specs.declared.CPiStep.{CPiStep}

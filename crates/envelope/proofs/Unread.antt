@@ -15,8 +15,8 @@ use Rattle.avr_config.specs.declared.AvrConfigStep.{AvrConfigStep}
 use Rattle.avr_config.specs.declared.AvrConfigStep.the-variants as C
 use Rattle.avr_config.specs.Answers as configs
 use Rattle.pi.specs.declared.PiSequencer.{PiSequencer}
-use Rattle.pi.specs.declared.PiStep.{PiStep}
-use Rattle.pi.specs.declared.PiStep.the-variants as P
+use Rattle.pi_table.specs.declared.PiStep.{PiStep}
+use Rattle.pi_table.specs.declared.PiStep.the-variants as P
 use Rattle.pi.specs.Answers as pis
 use Rattle.sequence.specs.Events as events
 use Rattle.envelope.specs.Lent.{lent}

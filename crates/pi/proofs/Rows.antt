@@ -16,13 +16,13 @@ use Rattle.protocol.specs.Addr.{byteOf}
 use Rattle.sequence.specs.Events.{Envelope, Event, forever}
 use Rattle.sequence.specs.Rows.{idle, ticked, passes, past, noDeadline}
 use Rattle.sequence.proofs.Arms.{at-ticks, at-idles}
-use Rattle.pi.specs.declared.PiStep.{PiStep}
-use Rattle.pi.specs.declared.PiStep.the-variants.{WaitStatus, WaitDevInfo, WaitParam0A, WaitCamConfig1, WaitCamConfig2, WaitNetConfig, WaitNetConfigPw, WaitParams, Done}
+use Rattle.pi_table.specs.declared.PiStep.{PiStep}
+use Rattle.pi_table.specs.declared.PiStep.the-variants.{WaitStatus, WaitDevInfo, WaitParam0A, WaitCamConfig1, WaitCamConfig2, WaitNetConfig, WaitNetConfigPw, WaitParams, Done}
 use Rattle.pi.specs.declared.PiSequencer.{PiSequencer}
-use Rattle.pi.specs.Stores.{toPi}
-use Rattle.pi.specs.Table.{PiRow, paramRow, row, next, request}
+use Rattle.pi_table.specs.Stores.{toPi}
+use Rattle.pi_table.specs.Table.{PiRow, paramRow, row, next, request}
 use Rattle.pi.specs.Answers.{view, made, advance, armAt, isDone}
-use Rattle.pi.proofs.PiStep as step
+use Rattle.pi_table.proofs.PiStep as step
 
 -- the row at the step decides
 pub at-step : (s : PiSequencer) (e : Event Envelope) (k : PiStep) → s .step ≡ k → armAt (row k) (next k) (row (next k)) s e ≡ advance s e
@@ -69,18 +69,6 @@ not-done WaitNetConfig h = refl
 not-done WaitNetConfigPw h = refl
 not-done (WaitParams i) h = refl
 not-done Done h = absurd (miss (0 ∷ 1 ∷ 2 ∷ 3 ∷ 4 ∷ 5 ∷ 6 ∷ 7 ∷ []) 8 tt h)
-
--- the camera's configuration is asked for at two steps
-pub asks-cam : (k : PiStep) → OneOf (3 ∷ 4 ∷ []) (Declared.tagOf step.the-type k) → toPi Command.CamConfigReq ≡ request k
-asks-cam WaitStatus h = absurd (miss (3 ∷ 4 ∷ []) 0 tt h)
-asks-cam WaitDevInfo h = absurd (miss (3 ∷ 4 ∷ []) 1 tt h)
-asks-cam WaitParam0A h = absurd (miss (3 ∷ 4 ∷ []) 2 tt h)
-asks-cam WaitCamConfig1 h = refl
-asks-cam WaitCamConfig2 h = refl
-asks-cam WaitNetConfig h = absurd (miss (3 ∷ 4 ∷ []) 5 tt h)
-asks-cam WaitNetConfigPw h = absurd (miss (3 ∷ 4 ∷ []) 6 tt h)
-asks-cam (WaitParams i) h = absurd (miss (3 ∷ 4 ∷ []) 7 tt h)
-asks-cam Done h = absurd (miss (3 ∷ 4 ∷ []) 8 tt h)
 
 -- after a parameter nothing waits
 pub no-wait : (i : ℕ) → row (next (WaitParams i)) .wait ≡ forever

@@ -13,16 +13,16 @@ use Rattle.device.specs.Sends.{poll}
 use Rattle.sequence.specs.Accepted.{bytesOutcome, resultRefusals}
 use Rattle.sequence.specs.Events.{Envelope, Event, fed}
 use Rattle.sequence.specs.Rows.{State, Moved, noDeadline, heardAt, heard, judged}
-use Rattle.pi.specs.declared.PiStep.{PiStep}
-use Rattle.pi.specs.declared.PiStep.the-variants.{WaitStatus, WaitDevInfo, WaitParam0A, WaitCamConfig1, WaitCamConfig2, WaitNetConfig, WaitNetConfigPw, WaitParams, Done}
-use Rattle.pi.specs.declared.PiReplies.{PiReplies}
+use Rattle.pi_table.specs.declared.PiStep.{PiStep}
+use Rattle.pi_table.specs.declared.PiStep.the-variants.{WaitStatus, WaitDevInfo, WaitParam0A, WaitCamConfig1, WaitCamConfig2, WaitNetConfig, WaitNetConfigPw, WaitParams, Done}
+use Rattle.pi_table.specs.declared.PiReplies.{PiReplies}
 use Rattle.pi.specs.declared.PiSequencer.{PiSequencer}
 use Rattle.pi.specs.declared.PiSync.{PiSync}
 use Rattle.pi.specs.declared.PiStarted.{PiStarted}
 use Rattle.pi.specs.declared.PiFed.{PiFed}
 use Rattle.pi.specs.declared.PiFinished.{PiFinished}
-use Rattle.pi.specs.Stores.{noReplies}
-use Rattle.pi.specs.Table.{PiRow, row, next}
+use Rattle.pi_table.specs.Stores.{noReplies}
+use Rattle.pi_table.specs.Table.{PiRow, row, next}
 
 -- new polls the Pi
 abbrev pub begun : PiStarted

@@ -1,4 +1,2 @@
-pub mod Stores
-pub mod Table
 pub mod Answers
 pub mod Calls

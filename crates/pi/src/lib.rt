@@ -6,55 +6,25 @@ ghost use denote.Ref.{now as held};
 ghost use Rattle.protocol.specs.declared.BusAddr.{BusAddr};
 ghost use Rattle.protocol.specs.declared.Outcome.{Outcome};
 ghost use Rattle.sequence.specs.Rows.{idle, past};
-ghost use Rattle.pi.specs.declared.PiStep.{PiStep};
-ghost use Rattle.pi.specs.Stores.{noReplies};
-ghost use Rattle.pi.specs.Table.{entry2, entry5, entry7, paramRow, next, request};
+ghost use Rattle.pi_table.specs.declared.PiStep.{PiStep};
+ghost use Rattle.pi_table.specs.Stores.{noReplies};
+ghost use Rattle.pi_table.specs.Table.{entry2, entry5, entry7, paramRow, next, request};
 ghost use Rattle.pi.specs.Answers.{begun, view, made, refused, advance, armAt, sent, fedTo, syncOf, finished};
 use net_config::after_zero;
 use net_config::before_zero;
+use pi_table::OptionCamConfig;
+use pi_table::PiReplies;
+use pi_table::PiStep;
+use pi_table::request;
 use protocol::Action;
 use protocol::BusAddr;
 use protocol::CamConfig;
-use protocol::Command;
 use protocol::DevInfoResp;
 use protocol::Message;
 use protocol::OptionDevInfoResp;
 use protocol::Outcome;
 use protocol::Refusal;
 use protocol::Stored;
-use requests::net_config_req;
-use requests::param_read_req;
-use requests::status_poll;
-
-// The parameters that are read last, in this order.
-const IDS: [u8; 9] = [0x01, 0x07, 0x08, 0x09, 0x06, 0x0B, 0x03, 0x04, 0x05];
-
-pub enum PiStep {
-    WaitStatus,
-    WaitDevInfo,
-    WaitParam0A,
-    WaitCamConfig1,
-    WaitCamConfig2,
-    WaitNetConfig,
-    WaitNetConfigPw,
-    // the replies to the nine parameter reads
-    WaitParams { idx: usize },
-    Done,
-}
-
-#[repr(C)]
-pub struct OptionCamConfig {
-    pub some: bool,
-    pub value: CamConfig,
-}
-
-#[repr(C)]
-pub struct PiReplies {
-    pub dev_info: OptionDevInfoResp,
-    pub cam_config: OptionCamConfig,
-    pub ssid: Stored,
-    pub password: Stored,
-}
 
 pub struct PiSequencer {
     pub step: PiStep,
@@ -85,27 +55,25 @@ pub struct PiFinished {
     pub sync: PiSync,
 }
 
-impl PiReplies {
-    fn none() -> PiReplies
-        ensures { λ r. ⌜ r ≡ noReplies ⌝ }
-    {
-        let bytes = Stored::empty();
-        let cam_config = CamConfig::none();
-        PiReplies {
-            dev_info: OptionDevInfoResp {
-                some: false,
-                value: DevInfoResp {
-                    text: bytes,
-                    payload: bytes,
-                },
+fn no_replies() -> PiReplies
+    ensures { λ r. ⌜ r ≡ noReplies ⌝ }
+{
+    let bytes = Stored::empty();
+    let cam_config = CamConfig::none();
+    PiReplies {
+        dev_info: OptionDevInfoResp {
+            some: false,
+            value: DevInfoResp {
+                text: bytes,
+                payload: bytes,
             },
-            cam_config: OptionCamConfig {
-                some: false,
-                value: cam_config,
-            },
-            ssid: bytes,
-            password: bytes,
-        }
+        },
+        cam_config: OptionCamConfig {
+            some: false,
+            value: cam_config,
+        },
+        ssid: bytes,
+        password: bytes,
     }
 }
 
@@ -125,31 +93,6 @@ fn sync(replies: PiReplies) -> PiSync
         ssid: ssid,
         password: password,
     }
-}
-
-// ---- what is asked
-
-// What is asked when a step begins.
-fn request(step: PiStep) -> Action
-    ensures { λ r. ⌜ r ≡ request step ⌝ }
-{
-    match step {
-        PiStep::WaitStatus => return status_poll(true, BusAddr::Pi),
-        PiStep::WaitDevInfo => return Action::send(Command::DevInfoReq, BusAddr::Pi),
-        PiStep::WaitParam0A => return param_read_req(0x0A, BusAddr::Pi),
-        PiStep::WaitCamConfig1 | PiStep::WaitCamConfig2 => {
-            return Action::send(Command::CamConfigReq, BusAddr::Pi);
-        }
-        PiStep::WaitNetConfig => return net_config_req(false),
-        PiStep::WaitNetConfigPw => return net_config_req(true),
-        PiStep::WaitParams { idx } => {
-            if idx < 9 {
-                return param_read_req(IDS[idx], BusAddr::Pi);
-            }
-        }
-        PiStep::Done => {}
-    }
-    Action::none()
 }
 
 // ---- an envelope from the Pi, by step
@@ -291,7 +234,7 @@ impl PiSequencer {
         ensures { λ r. ⌜ r ≡ begun ⌝ }
     {
         let action = request(PiStep::WaitStatus);
-        let replies = PiReplies::none();
+        let replies = no_replies();
         PiStarted {
             action: action,
             seq: PiSequencer {
@@ -333,7 +276,7 @@ impl PiSequencer {
                 sync: sync,
             };
         }
-        let sync = sync(PiReplies::none());
+        let sync = sync(no_replies());
         PiFinished {
             outcome: Outcome::Refused(Refusal::NotDone),
             sync: sync,

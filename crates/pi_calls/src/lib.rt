@@ -4,7 +4,7 @@ mod stored;
 
 use pi::PiFed;
 use pi::PiSequencer;
-use pi::PiStep;
+use pi_table::PiStep;
 use protocol::Outcome;
 use reading::call::Call;
 use reading::call::Calls;

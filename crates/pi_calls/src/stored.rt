@@ -1,7 +1,7 @@
 // Writes what a Pi start-up stores.
 use crate::camera;
-use pi::OptionCamConfig;
-use pi::PiReplies;
+use pi_table::OptionCamConfig;
+use pi_table::PiReplies;
 use pi::PiSync;
 use protocol::Stored;
 use writing::fields;

@@ -19,9 +19,9 @@ use Rattle.matching.proofs.Machine.{leftmost}
 use Rattle.matching.proofs.Leftmost.{leftmost-matching, leftmost-earliest}
 use Rattle.sequence.specs.Events.{Envelope, Event, checked, reading}
 use Rattle.sequence.specs.Calls.{Untimed}
-use Rattle.pi.specs.declared.PiStep.{PiStep}
+use Rattle.pi_table.specs.declared.PiStep.{PiStep}
 use Rattle.pi.specs.declared.PiSequencer.{PiSequencer}
-use Rattle.pi.specs.Table.{table}
+use Rattle.pi_table.specs.Table.{table}
 use Rattle.pi.specs.Answers.{begun, finished, noSync, isDone}
 use Rattle.pi.specs.Calls.{PiCall, into-result, after, event}
 use Rattle.pi_runs.proofs.Whole.{anti, sequencer, right}

@@ -17,13 +17,13 @@ use Rattle.sequence.specs.Rows.{State}
 use Rattle.sequence.specs.Calls.{Untimed}
 use Rattle.sequence.proofs.Standing as rows
 use Rattle.sequence.proofs.Fed as fed
-use Rattle.pi.specs.declared.PiStep.{PiStep}
-use Rattle.pi.specs.declared.PiStep.the-variants.{WaitStatus, WaitDevInfo, WaitParam0A, WaitCamConfig1, WaitCamConfig2, WaitNetConfig, WaitNetConfigPw, WaitParams, Done}
-use Rattle.pi.specs.declared.PiReplies.{PiReplies}
+use Rattle.pi_table.specs.declared.PiStep.{PiStep}
+use Rattle.pi_table.specs.declared.PiStep.the-variants.{WaitStatus, WaitDevInfo, WaitParam0A, WaitCamConfig1, WaitCamConfig2, WaitNetConfig, WaitNetConfigPw, WaitParams, Done}
+use Rattle.pi_table.specs.declared.PiReplies.{PiReplies}
 use Rattle.pi.specs.declared.PiSequencer.{PiSequencer}
 use Rattle.pi.specs.declared.PiFed.{PiFed}
-use Rattle.pi.specs.Stores.{noReplies}
-use Rattle.pi.specs.Table.{row, next, steps, table}
+use Rattle.pi_table.specs.Stores.{noReplies}
+use Rattle.pi_table.specs.Table.{row, next, steps, table}
 use Rattle.pi.specs.Answers.{view, advance, refused, finished, noSync, isDone}
 use Rattle.pi.specs.Calls.{Asked, into-result, after, event}
 use Rattle.pi_runs.specs.Theorem.{resultOf, Theorem}

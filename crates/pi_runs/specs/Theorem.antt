@@ -9,10 +9,10 @@ use Rattle.matching.specs.Promise.{Ends, Answers}
 use Rattle.sequence.specs.Events.{Envelope, Event, checked, reading}
 use Rattle.sequence.specs.Calls.{Untimed}
 use Rattle.sequence.specs.Replies.{devInfoIn}
-use Rattle.pi.specs.declared.PiStep.{PiStep}
+use Rattle.pi_table.specs.declared.PiStep.{PiStep}
 use Rattle.pi.specs.declared.PiSync.{PiSync}
-use Rattle.pi.specs.Stores.{camConfigIn, ssidIn, passwordIn}
-use Rattle.pi.specs.Table.{table}
+use Rattle.pi_table.specs.Stores.{camConfigIn, ssidIn, passwordIn}
+use Rattle.pi_table.specs.Table.{table}
 use Rattle.pi.specs.Answers.{begun, finished, noSync}
 use Rattle.pi.specs.Calls.{PiCall, into-result, after, event}
 

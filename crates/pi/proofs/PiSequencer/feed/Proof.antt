@@ -8,7 +8,7 @@ use Rattle.protocol.proofs.Arms.{elsewhere}
 use Rattle.sequence.specs.Accepted.{bytesOutcome}
 use Rattle.sequence.specs.Events.{Envelope, fed}
 use Rattle.sequence.proofs.Arms.{judged-accepted, judged-refused}
-use Rattle.pi.specs.Table.{row, next}
+use Rattle.pi_table.specs.Table.{row, next}
 use Rattle.pi.specs.Answers.{advance, refused}
 use Rattle.pi.proofs.Rows.{idles, foreign}
 use borrow.Author.Needs.{needs}

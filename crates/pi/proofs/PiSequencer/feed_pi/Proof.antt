@@ -4,7 +4,7 @@ use mathlib.Core.Path.{refl, _∙_}
 use mathlib.Core.Logic.{⊎-elim}
 use denote.Ref.{now}
 use Rattle.protocol.proofs.Arms.{other}
-use Rattle.pi.specs.declared.PiStep.{PiStep}
+use Rattle.pi_table.specs.declared.PiStep.{PiStep}
 use Rattle.pi.specs.Answers.{sent}
 use Rattle.pi.proofs.Rows.{at-step, idles-at, ticks-at, after-param}
 use borrow.Author.Needs.{needs}

@@ -11,7 +11,7 @@ returns : tie.Need-returns
 returns c = rw (ap isDone (c .before .enum-told .given .1), c .sync .ensures)
 
 returns-2 : tie.Need-returns-2
-returns-2 c = rw (c .sync2 .ensures, c .before .none .ensures, not-done (c .before .before .before .args .self .step) (c .before .before .match .keys2))
+returns-2 c = rw (c .sync2 .ensures, c .before .no-replies .ensures, not-done (c .before .before .before .args .self .step) (c .before .before .match .keys2))
 
 pub into-result-spec : {M : Type 1} → statement M
 into-result-spec =

@@ -17,8 +17,8 @@ use Rattle.net_config.specs.Zero.{firstZero}
 use Rattle.requests.specs.Requests as requests
 use Rattle.sequence.specs.Events.{Envelope, Event, fed, checked, kind}
 use Rattle.sequence.specs.Replies.{noDevInfo, devInfoIn}
-use Rattle.pi.specs.declared.OptionCamConfig.{OptionCamConfig}
-use Rattle.pi.specs.declared.PiReplies.{PiReplies}
+use Rattle.pi_table.specs.declared.OptionCamConfig.{OptionCamConfig}
+use Rattle.pi_table.specs.declared.PiReplies.{PiReplies}
 
 -- ---- what is absent
 

@@ -15,11 +15,11 @@ use Rattle.device.specs.Sends.{poll}
 use Rattle.matching.specs.Matching.{Table}
 use Rattle.sequence.specs.Events.{Envelope, Event, forever}
 use Rattle.sequence.specs.Rows.{Row, test, past}
-use Rattle.pi.specs.declared.PiStep.{PiStep}
-use Rattle.pi.specs.declared.PiStep.the-variants.{WaitStatus, WaitDevInfo, WaitParam0A, WaitCamConfig1, WaitCamConfig2, WaitNetConfig, WaitNetConfigPw, WaitParams, Done}
-use Rattle.pi.specs.declared.PiReplies.{PiReplies}
+use Rattle.pi_table.specs.declared.PiStep.{PiStep}
+use Rattle.pi_table.specs.declared.PiStep.the-variants.{WaitStatus, WaitDevInfo, WaitParam0A, WaitCamConfig1, WaitCamConfig2, WaitNetConfig, WaitNetConfigPw, WaitParams, Done}
+use Rattle.pi_table.specs.declared.PiReplies.{PiReplies}
 use Rattle.requests.specs.Requests.{netConfigReq}
-use Rattle.pi.specs.Stores.{fromPi, store, toPi, paramReadReq}
+use Rattle.pi_table.specs.Stores.{fromPi, store, toPi, paramReadReq}
 
 abbrev pub PiRow : Type 0
 PiRow = Row Envelope PiReplies

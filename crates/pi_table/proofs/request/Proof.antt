@@ -3,10 +3,10 @@
 use mathlib.Core.Path.{_∙_}
 use mathlib.Core.Logic.{⊎-elim}
 use borrow.Author.Tests.{lt-ltb, le-ltb}
-use Rattle.pi.proofs.Rows.{asks-cam}
+use Rattle.pi_table.proofs.Requests.{asks-cam}
 use borrow.Author.Needs.{needs}
-use Rattle.pi.proofs.request.Statement.{statement}
-use Rattle.pi.proofs.request.Tie as tie
+use Rattle.pi_table.proofs.request.Statement.{statement}
+use Rattle.pi_table.proofs.request.Tie as tie
 
 returns : tie.Need-returns
 returns c = c .status-poll .ensures ∙ rw (c .before .enum-told .given .1)
