@@ -257,9 +257,9 @@ const IN_WORDS: [(&str, &str); 2] = [
 #[test]
 fn machines_and_tables_agree() {
     let tables = [
-        ("DSP start-up", "dsp_steps"),
-        ("AVR start-up", "avr_steps"),
-        ("Pi start-up", "pi"),
+        ("DSP start-up", "dsp_table"),
+        ("AVR start-up", "avr_table"),
+        ("Pi start-up", "pi_table"),
         ("Settings run", "avr_config"),
         ("Disarm", "disarm"),
     ];

@@ -8,7 +8,7 @@ use Rattle.protocol.specs.declared.Outcome.{Outcome}
 use Rattle.protocol.specs.Action.{noAction}
 use Rattle.protocol.specs.Refusals.{outcome, lowest}
 use Rattle.device.specs.declared.model.DeviceModel.{DeviceModel}
-use Rattle.device.specs.Sends.{poll}
+use Rattle.requests.specs.Requests.{statusPoll}
 use Rattle.sequence.specs.Accepted.{feedOutcome, checkOutcome, resultRefusals}
 use Rattle.sequence.specs.Events.{Event, fed, checked, reading}
 use Rattle.sequence.specs.Rows.{judged}
@@ -19,13 +19,12 @@ use Rattle.avr_table.specs.Stores.{Dated, noReplies}
 use Rattle.avr_steps.specs.Answers as steps
 use Rattle.avr.specs.declared.AvrSync.{AvrSync}
 use Rattle.avr.specs.declared.AvrSequencer.{AvrSequencer}
-use Rattle.avr.specs.declared.AvrStarted.{AvrStarted}
 use Rattle.avr.specs.declared.AvrFed.{AvrFed}
 use Rattle.avr.specs.declared.AvrFinished.{AvrFinished}
 
 -- new polls the Avr; no reading has been accepted
-abbrev pub begun : DeviceModel → AvrStarted
-begun m = record { action = poll false BusAddr.Avr; seq = record { state = steps.begun m; last = 0 } }
+abbrev pub begun : DeviceModel → AvrFed
+begun m = record { outcome = Outcome.Accepted; action = statusPoll false BusAddr.Avr; seq = record { state = steps.begun m; last = 0 } }
 
 -- ---- a feed, a check
 

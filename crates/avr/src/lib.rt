@@ -26,7 +26,6 @@ use protocol::AvrStatus;
 use protocol::BusAddr;
 use protocol::CalDataResp;
 use protocol::CalParamResp;
-use protocol::Command;
 use protocol::ConfigResp;
 use protocol::DevInfoResp;
 use protocol::Message;
@@ -34,8 +33,8 @@ use protocol::OptionConfigResp;
 use protocol::OptionDevInfoResp;
 use protocol::Outcome;
 use protocol::Refusal;
-use protocol::StatusPoll;
 use protocol::Stored;
+use requests::status_poll;
 use sequence::OptionInstant;
 
 pub struct AvrSequencer {
@@ -53,11 +52,6 @@ pub struct AvrSync {
     pub if_cal: OptionCalParamResp,
     // none on a Xi, which is not asked
     pub avr_config: OptionAvrConfigResp,
-}
-
-pub struct AvrStarted {
-    pub action: Action,
-    pub seq: AvrSequencer,
 }
 
 pub struct AvrFed {
@@ -206,21 +200,19 @@ impl AvrSequencer {
     }
 
     // A start-up of a Mevo.
-    pub fn new() -> AvrStarted
+    pub fn new() -> AvrFed
         ensures { λ r. ⌜ r ≡ begun DeviceModel.Mevo ⌝ }
     {
         AvrSequencer::new_for(DeviceModel::Mevo)
     }
 
-    pub fn new_for(model: DeviceModel) -> AvrStarted
+    pub fn new_for(model: DeviceModel) -> AvrFed
         ensures { λ r. ⌜ r ≡ begun model ⌝ }
     {
-        let action = Action::send(
-            Command::StatusPoll(StatusPoll { pi_mode: false }),
-            BusAddr::Avr,
-        );
+        let action = status_poll(false, BusAddr::Avr);
         let state = new_state(model);
-        AvrStarted {
+        AvrFed {
+            outcome: Outcome::Accepted,
             action: action,
             seq: AvrSequencer {
                 state: state,

@@ -10,6 +10,7 @@ use Rattle.protocol.specs.Action.{noAction, sendTo}
 use Rattle.protocol.specs.declared.BusAddr.{BusAddr}
 use Rattle.protocol.specs.declared.Command.{Command}
 use Rattle.protocol.specs.declared.Action.{Action}
+use Rattle.requests.specs.Requests.{statusPoll}
 use Rattle.device.specs.Model.{hasCamera}
 use Rattle.device.specs.declared.model.DeviceModel.{DeviceModel}
 use Rattle.device.specs.declared.model.DeviceModel.the-variants.{Mevo, Xi}
@@ -23,9 +24,6 @@ abbrev pub resultAck : DeviceModel → BusAddr → ℕ → Action
 resultAck Mevo src id = noAction
 resultAck Xi src id = cond (eqb (byteOf src) 0x30 && isResult id) (sendTo BusAddr.Avr (Command.ConfigAck (ackOf id))) noAction
 
-abbrev pub poll : Bool → BusAddr → Action
-poll p d = sendTo d (Command.StatusPoll (record { «pi_mode» = p }))
-
 -- the polls of a keepalive, in the order of sending; the Pi's only where there is a camera
 abbrev pub keepaliveFor : DeviceModel → List Action
-keepaliveFor m = poll false BusAddr.Dsp ∷ poll false BusAddr.Avr ∷ cond (hasCamera m) (poll true BusAddr.Pi) noAction ∷ []
+keepaliveFor m = statusPoll false BusAddr.Dsp ∷ statusPoll false BusAddr.Avr ∷ cond (hasCamera m) (statusPoll true BusAddr.Pi) noAction ∷ []

@@ -1,13 +1,13 @@
 // The sends that belong to no sequence (src/seq.rs).
 ghost use mathlib.Core.Path.{_≡_};
-ghost use Rattle.device.specs.Sends.{isResult, resultAck, keepaliveFor, poll};
+ghost use Rattle.device.specs.Sends.{isResult, resultAck, keepaliveFor};
 ghost use Rattle.device.specs.declared.model.DeviceModel.{DeviceModel};
 use crate::model::DeviceModel;
 use protocol::Action;
 use protocol::BusAddr;
 use protocol::Command;
 use protocol::ConfigAck;
-use protocol::StatusPoll;
+use requests::status_poll;
 
 const TYPE_FLIGHT_RESULT: u8 = 0xD4;
 
@@ -40,12 +40,6 @@ pub fn result_ack(model: DeviceModel, src: BusAddr, type_id: u8) -> Action
     } else {
         Action::none()
     }
-}
-
-fn status_poll(pi_mode: bool, dest: BusAddr) -> Action
-    ensures { λ r. ⌜ r ≡ poll «pi_mode» dest ⌝ }
-{
-    Action::send(Command::StatusPoll(StatusPoll { pi_mode: pi_mode }), dest)
 }
 
 // A keepalive poll on a Mevo.

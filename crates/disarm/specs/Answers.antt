@@ -11,13 +11,12 @@ use Rattle.sequence.specs.Rows.{State, Moved, noDeadline, heardAt, heard, judge
 use Rattle.disarm.specs.declared.DisarmStep.{DisarmStep}
 use Rattle.disarm.specs.declared.DisarmStep.the-variants.{WaitAck}
 use Rattle.disarm.specs.declared.DisarmSequencer.{DisarmSequencer}
-use Rattle.disarm.specs.declared.DisarmStarted.{DisarmStarted}
 use Rattle.disarm.specs.declared.DisarmFed.{DisarmFed}
 use Rattle.disarm.specs.Table.{DisarmRow, row, next}
 
 -- new sends a commit
-abbrev pub begun : DisarmStarted
-begun = record { action = avrConfigCmd false; seq = record { step = WaitAck } }
+abbrev pub begun : DisarmFed
+begun = record { outcome = Outcome.Accepted; action = avrConfigCmd false; seq = record { step = WaitAck } }
 
 -- the sequencer as the common rows have it, and back
 abbrev pub view : DisarmSequencer → State DisarmStep (Unit {0})

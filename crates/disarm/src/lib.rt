@@ -28,11 +28,6 @@ pub struct DisarmSequencer {
     pub step: DisarmStep,
 }
 
-pub struct DisarmStarted {
-    pub action: Action,
-    pub seq: DisarmSequencer,
-}
-
 pub struct DisarmFed {
     pub outcome: Outcome,
     pub action: Action,
@@ -123,11 +118,12 @@ impl DisarmSequencer {
 
     // ---- the calls
 
-    pub fn new() -> DisarmStarted
+    pub fn new() -> DisarmFed
         ensures { λ r. ⌜ r ≡ begun ⌝ }
     {
         let action = avr_config_cmd(false);
-        DisarmStarted {
+        DisarmFed {
+            outcome: Outcome::Accepted,
             action: action,
             seq: DisarmSequencer {
                 step: DisarmStep::WaitAck,

@@ -10,7 +10,7 @@ use Rattle.protocol.specs.Carried.{noNack}
 use Rattle.protocol.specs.Refusals.{outcome, lowest}
 use Rattle.device.specs.declared.model.DeviceModel.{DeviceModel}
 use Rattle.device.specs.Model.{modelIn}
-use Rattle.device.specs.Sends.{poll}
+use Rattle.requests.specs.Requests.{statusPoll}
 use Rattle.sequence.specs.Accepted.{feedOutcome, checkOutcome, resultRefusals}
 use Rattle.sequence.specs.Events.{Envelope, Event, fed, checked, reading}
 use Rattle.sequence.specs.Rows.{judged}
@@ -22,14 +22,13 @@ use Rattle.dsp_table.specs.Stores.{noReplies}
 use Rattle.dsp_steps.specs.Answers as steps
 use Rattle.dsp.specs.declared.DspSync.{DspSync}
 use Rattle.dsp.specs.declared.DspSequencer.{DspSequencer}
-use Rattle.dsp.specs.declared.DspStarted.{DspStarted}
 use Rattle.dsp.specs.declared.DspFed.{DspFed}
 use Rattle.dsp.specs.declared.DspFinished.{DspFinished}
 use Rattle.dsp.specs.declared.DspTaken.{DspTaken}
 
 -- new polls the Dsp; no reading has been accepted
-abbrev pub begun : DspStarted
-begun = record { action = poll false BusAddr.Dsp; seq = record { state = steps.begun; last = 0 } }
+abbrev pub begun : DspFed
+begun = record { outcome = Outcome.Accepted; action = statusPoll false BusAddr.Dsp; seq = record { state = steps.begun; last = 0 } }
 
 -- ---- a feed, a check
 

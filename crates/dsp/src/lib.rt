@@ -15,7 +15,6 @@ use dsp_table::DspStep;
 use dsp_table::OptionDspQueryResp;
 use protocol::Action;
 use protocol::BusAddr;
-use protocol::Command;
 use protocol::ConfigResp;
 use protocol::DevInfoResp;
 use protocol::DspStatus;
@@ -24,8 +23,8 @@ use protocol::OptionNack;
 use protocol::Outcome;
 use protocol::ProdInfoResp;
 use protocol::Refusal;
-use protocol::StatusPoll;
 use protocol::Stored;
+use requests::status_poll;
 
 pub struct DspSequencer {
     pub state: DspState,
@@ -45,11 +44,6 @@ pub struct DspSync {
     // named by the device info
     pub model: DeviceModel,
     pub power_mode_unanswered: bool,
-}
-
-pub struct DspStarted {
-    pub action: Action,
-    pub seq: DspSequencer,
 }
 
 pub struct DspFed {
@@ -137,15 +131,13 @@ impl DspSequencer {
         }
     }
 
-    pub fn new() -> DspStarted
+    pub fn new() -> DspFed
         ensures { λ r. ⌜ r ≡ begun ⌝ }
     {
-        let action = Action::send(
-            Command::StatusPoll(StatusPoll { pi_mode: false }),
-            BusAddr::Dsp,
-        );
+        let action = status_poll(false, BusAddr::Dsp);
         let state = DspState::new();
-        DspStarted {
+        DspFed {
+            outcome: Outcome::Accepted,
             action: action,
             seq: DspSequencer {
                 state: state,

@@ -11,8 +11,8 @@ use Rattle.protocol.specs.Action.{noAction, sendTo}
 use Rattle.protocol.specs.Kinds.{dspStatus, configAck, configNack, configResp, dspQueryResp, devInfoResp, prodInfoResp}
 use Rattle.device.specs.declared.model.DeviceModel.{DeviceModel}
 use Rattle.device.specs.Model.{hasPowerMode}
-use Rattle.device.specs.Sends.{poll}
 use Rattle.matching.specs.Matching.{Table}
+use Rattle.requests.specs.Requests.{statusPoll}
 use Rattle.sequence.specs.Events.{Envelope, Event, forever, nanos, acking, either}
 use Rattle.sequence.specs.Rows.{Row, test, past}
 use Rattle.dsp_table.specs.declared.DspStep.{DspStep}
@@ -97,7 +97,7 @@ next m Done = Done
 
 -- what is asked when a step begins: what the entry before it sends (the first step begins with a new start-up, which polls)
 abbrev pub request : DspStep → Action
-request WaitStatus = poll false BusAddr.Dsp
+request WaitStatus = statusPoll false BusAddr.Dsp
 request WaitDspQuery = sendTo BusAddr.Dsp Command.DspQuery
 request WaitDevInfo = sendTo BusAddr.Dsp Command.DevInfoReq
 request WaitProdInfo0 = prodInfoReq 0x00

@@ -5,11 +5,9 @@ use mathlib.Core.Bool.{cond, _&&_}
 use mathlib.Core.List.{List}
 use Rattle.protocol.specs.Carried.{noNack}
 use Rattle.device.specs.declared.model.DeviceModel.{DeviceModel}
-use Rattle.dsp.specs.declared.DspStarted.{DspStarted}
 use Rattle.dsp.specs.declared.DspFed.{DspFed}
 use Rattle.dsp.specs.declared.DspSync.{DspSync}
 use Rattle.dsp.specs.Answers as dsp
-use Rattle.avr.specs.declared.AvrStarted.{AvrStarted}
 use Rattle.avr.specs.declared.AvrFed.{AvrFed}
 use Rattle.avr.specs.Answers as avr
 use Rattle.abi_values.specs.Numbers.{modelIn, modelOut, refusalOut}
@@ -29,9 +27,6 @@ use Rattle.host.specs.declared.c_avr.CAvrFinished.{CAvrFinished}
 use Rattle.host.specs.Sends.{unknown, nothing, opened}
 
 -- ---- DSP
-
-abbrev pub dspStarted : DspStarted → CDspFed
-dspStarted s = record { refusal = 0; action = actionOut (s .action); seq = dspOut (s .seq) }
 
 abbrev pub dspFed : DspFed → CDspFed
 dspFed f = record { refusal = refusalOut (f .outcome); action = actionOut (f .action); seq = dspOut (f .seq) }
@@ -73,9 +68,6 @@ dspTake c =
 
 -- ---- AVR
 
-abbrev pub avrStarted : AvrStarted → CAvrFed
-avrStarted s = record { refusal = 0; action = actionOut (s .action); seq = avrOut (s .seq) }
-
 abbrev pub avrFed : AvrFed → CAvrFed
 avrFed f = record { refusal = refusalOut (f .outcome); action = actionOut (f .action); seq = avrOut (f .seq) }
 
@@ -90,7 +82,7 @@ abbrev pub avrUnknown : CAvr
 avrUnknown = at255 (avrOut (avr.begun DeviceModel.Mevo .seq))
 
 abbrev pub avrNewFor : ℕ → CAvrFed
-avrNewFor model = cond (modelIn model .known) (avrStarted (avr.begun (modelIn model .value))) (avrDeclined avrUnknown)
+avrNewFor model = cond (modelIn model .known) (avrFed (avr.begun (modelIn model .value))) (avrDeclined avrUnknown)
 
 abbrev pub avrFeed : CAvr → CEnvelope → List ℕ → List ℕ → ℕ → ℕ → CAvrFed
 avrFeed c e text payload t wall =

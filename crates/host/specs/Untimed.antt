@@ -6,15 +6,13 @@ use mathlib.Core.Bool.{cond, _&&_, _||_, false}
 use mathlib.Core.List.{List, []}
 use lib.Dec.{ltb}
 use Rattle.settings.specs.Settings.{modeOnly}
-use Rattle.pi.specs.declared.PiStarted.{PiStarted}
 use Rattle.pi.specs.declared.PiFed.{PiFed}
 use Rattle.pi.specs.Answers as pi
 use Rattle.avr_config.specs.declared.AvrConfigFed.{AvrConfigFed}
 use Rattle.avr_config.specs.Answers as config
-use Rattle.arm.specs.declared.ArmStarted.{ArmStarted}
 use Rattle.arm.specs.declared.ArmFed.{ArmFed}
 use Rattle.arm.specs.Answers as arm
-use Rattle.disarm.specs.declared.DisarmStarted.{DisarmStarted}
+use Rattle.disarm.specs.declared.DisarmFed.{DisarmFed}
 use Rattle.disarm.specs.declared.DisarmFed.{DisarmFed}
 use Rattle.disarm.specs.Answers as disarm
 use Rattle.abi_values.specs.Numbers.{modelIn, refusalOut}
@@ -40,9 +38,6 @@ use Rattle.host.specs.declared.c_disarm.CDisarmFed.{CDisarmFed}
 use Rattle.host.specs.Sends.{unknown, nothing, opened}
 
 -- ---- Pi
-
-abbrev pub piStarted : PiStarted → CPiFed
-piStarted s = record { refusal = 0; action = actionOut (s .action); seq = piOut (s .seq) }
 
 abbrev pub piFed : PiFed → CPiFed
 piFed f = record { refusal = refusalOut (f .outcome); action = actionOut (f .action); seq = piOut (f .seq) }
@@ -81,9 +76,6 @@ avrConfigFeed c e text payload =
 
 -- ---- arm
 
-abbrev pub armStarted : ArmStarted → CArmFed
-armStarted s = record { refusal = 0; action = actionOut (s .action); seq = armOut (s .seq) }
-
 abbrev pub armFed : ArmFed → CArmFed
 armFed f = record { refusal = refusalOut (f .outcome); action = actionOut (f .action); seq = armOut (f .seq) }
 
@@ -95,7 +87,7 @@ abbrev pub armUnknown : CArm
 armUnknown = record { step = record { number = 255; «got_pi» = false; «got_armed» = false }; retries = 0; «wait_pi» = false }
 
 abbrev pub armNewFor : ℕ → CArmFed
-armNewFor model = cond (modelIn model .known) (armStarted (arm.begun (modelIn model .value))) (armDeclined armUnknown)
+armNewFor model = cond (modelIn model .known) (armFed (arm.begun (modelIn model .value))) (armDeclined armUnknown)
 
 abbrev pub armFeed : CArm → CEnvelope → List ℕ → List ℕ → CArmFed
 armFeed c e text payload =
@@ -106,8 +98,8 @@ armRetries c = cond (armIn c .known) (record { refusal = 0; retries = armIn c .s
 
 -- ---- disarm
 
-abbrev pub disarmStarted : DisarmStarted → CDisarmFed
-disarmStarted s = record { refusal = 0; action = actionOut (s .action); seq = disarmOut (s .seq) }
+abbrev pub disarmFed : DisarmFed → CDisarmFed
+disarmFed s = record { refusal = 0; action = actionOut (s .action); seq = disarmOut (s .seq) }
 
 abbrev pub disarmFed : DisarmFed → CDisarmFed
 disarmFed f = record { refusal = refusalOut (f .outcome); action = actionOut (f .action); seq = disarmOut (f .seq) }

@@ -3,7 +3,7 @@ ghost use mathlib.Core.Path.{_≡_};
 ghost use denote.Ref.{now as held};
 ghost use Rattle.device.specs.declared.model.DeviceModel.{DeviceModel};
 ghost use Rattle.arm.specs.Answers.{begun};
-ghost use Rattle.host.specs.Untimed.{armStarted, armUnknown, armNewFor, armFed, armDeclined, armFeed, armRetries};
+ghost use Rattle.host.specs.Untimed.{armUnknown, armNewFor, armFed, armDeclined, armFeed, armRetries};
 use crate::UNKNOWN;
 use abi::action::CAction;
 use abi::action::action_out;
@@ -17,7 +17,6 @@ use abi_values::model_in;
 use abi_values::refusal_out;
 use arm::ArmFed;
 use arm::ArmSequencer;
-use arm::ArmStarted;
 use protocol::Action;
 
 #[repr(C)]
@@ -57,18 +56,6 @@ fn declined(seq: CArm) -> CArmFed
     }
 }
 
-fn started_out(started: ArmStarted) -> CArmFed
-    ensures { λ r. ⌜ r ≡ armStarted started ⌝ }
-{
-    let action = started.action;
-    let seq = started.seq;
-    CArmFed {
-        refusal: 0,
-        action: action_out(action),
-        seq: arm_out(seq),
-    }
-}
-
 // A state at a step that there is not, which every call declines.
 fn unknown() -> CArm
     ensures { λ r. ⌜ r ≡ armUnknown ⌝ }
@@ -86,9 +73,9 @@ fn unknown() -> CArm
 
 #[no_mangle]
 pub extern "C" fn wigtalom_arm_new() -> CArmFed
-    ensures { λ r. ⌜ r ≡ armStarted (begun DeviceModel.Mevo) ⌝ }
+    ensures { λ r. ⌜ r ≡ armFed (begun DeviceModel.Mevo) ⌝ }
 {
-    started_out(ArmSequencer::new())
+    fed_out(ArmSequencer::new())
 }
 
 #[no_mangle]
@@ -98,7 +85,7 @@ pub extern "C" fn wigtalom_arm_new_for(model: u8) -> CArmFed
     let m = model_in(model);
     if m.known {
         let known = m.value;
-        return started_out(ArmSequencer::new_for(known));
+        return fed_out(ArmSequencer::new_for(known));
     }
     declined(unknown())
 }

@@ -3,7 +3,7 @@ ghost use mathlib.Core.Path.{_≡_};
 ghost use denote.Ref.{now as held};
 ghost use Rattle.device.specs.declared.model.DeviceModel.{DeviceModel};
 ghost use Rattle.avr.specs.Answers.{begun};
-ghost use Rattle.host.specs.Timed.{avrStarted, avrUnknown, avrNewFor, avrFed, avrDeclined, avrFeed, avrCheck, avrResult};
+ghost use Rattle.host.specs.Timed.{avrUnknown, avrNewFor, avrFed, avrDeclined, avrFeed, avrCheck, avrResult};
 use crate::UNKNOWN;
 use abi::action::CAction;
 use abi::action::action_out;
@@ -16,7 +16,6 @@ use abi_values::model_in;
 use abi_values::refusal_out;
 use avr::AvrFed;
 use avr::AvrSequencer;
-use avr::AvrStarted;
 use avr::AvrSync;
 use protocol::Action;
 
@@ -57,18 +56,6 @@ fn declined(seq: CAvr) -> CAvrFed
     }
 }
 
-fn started_out(started: AvrStarted) -> CAvrFed
-    ensures { λ r. ⌜ r ≡ avrStarted started ⌝ }
-{
-    let action = started.action;
-    let seq = started.seq;
-    CAvrFed {
-        refusal: 0,
-        action: action_out(action),
-        seq: avr_out(seq),
-    }
-}
-
 // A state at a step that there is not, which every call declines.
 fn unknown() -> CAvr
     ensures { λ r. ⌜ r ≡ avrUnknown ⌝ }
@@ -81,9 +68,9 @@ fn unknown() -> CAvr
 
 #[no_mangle]
 pub extern "C" fn wigtalom_avr_new() -> CAvrFed
-    ensures { λ r. ⌜ r ≡ avrStarted (begun DeviceModel.Mevo) ⌝ }
+    ensures { λ r. ⌜ r ≡ avrFed (begun DeviceModel.Mevo) ⌝ }
 {
-    started_out(AvrSequencer::new())
+    fed_out(AvrSequencer::new())
 }
 
 #[no_mangle]
@@ -93,7 +80,7 @@ pub extern "C" fn wigtalom_avr_new_for(model: u8) -> CAvrFed
     let m = model_in(model);
     if m.known {
         let known = m.value;
-        return started_out(AvrSequencer::new_for(known));
+        return fed_out(AvrSequencer::new_for(known));
     }
     declined(unknown())
 }

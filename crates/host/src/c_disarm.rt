@@ -2,7 +2,7 @@
 ghost use mathlib.Core.Path.{_≡_};
 ghost use denote.Ref.{now as held};
 ghost use Rattle.disarm.specs.Answers.{begun};
-ghost use Rattle.host.specs.Untimed.{disarmStarted, disarmFed, disarmDeclined, disarmFeed};
+ghost use Rattle.host.specs.Untimed.{disarmFed, disarmDeclined, disarmFeed};
 use crate::UNKNOWN;
 use abi::action::CAction;
 use abi::action::action_out;
@@ -49,16 +49,9 @@ fn declined(seq: CDisarm) -> CDisarmFed
 
 #[no_mangle]
 pub extern "C" fn wigtalom_disarm_new() -> CDisarmFed
-    ensures { λ r. ⌜ r ≡ disarmStarted begun ⌝ }
+    ensures { λ r. ⌜ r ≡ disarmFed begun ⌝ }
 {
-    let started = DisarmSequencer::new();
-    let action = started.action;
-    let seq = started.seq;
-    CDisarmFed {
-        refusal: 0,
-        action: action_out(action),
-        seq: disarm_out(seq),
-    }
+    fed_out(DisarmSequencer::new())
 }
 
 #[no_mangle]

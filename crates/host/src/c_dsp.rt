@@ -2,7 +2,7 @@
 ghost use mathlib.Core.Path.{_≡_};
 ghost use denote.Ref.{now as held};
 ghost use Rattle.dsp.specs.Answers.{begun};
-ghost use Rattle.host.specs.Timed.{dspStarted, dspFed, dspDeclined, dspFeed, dspCheck, dspSync, dspResult, dspTake};
+ghost use Rattle.host.specs.Timed.{dspFed, dspDeclined, dspFeed, dspCheck, dspSync, dspResult, dspTake};
 use crate::UNKNOWN;
 use abi::action::CAction;
 use abi::action::action_out;
@@ -19,7 +19,6 @@ use abi_values::model_out;
 use abi_values::refusal_out;
 use dsp::DspFed;
 use dsp::DspSequencer;
-use dsp::DspStarted;
 use dsp::DspSync;
 use dsp_table::OptionDspQueryResp;
 use protocol::Action;
@@ -107,23 +106,11 @@ fn declined(seq: CDsp) -> CDspFed
     }
 }
 
-fn started_out(started: DspStarted) -> CDspFed
-    ensures { λ r. ⌜ r ≡ dspStarted started ⌝ }
-{
-    let action = started.action;
-    let seq = started.seq;
-    CDspFed {
-        refusal: 0,
-        action: action_out(action),
-        seq: dsp_out(seq),
-    }
-}
-
 #[no_mangle]
 pub extern "C" fn wigtalom_dsp_new() -> CDspFed
-    ensures { λ r. ⌜ r ≡ dspStarted begun ⌝ }
+    ensures { λ r. ⌜ r ≡ dspFed begun ⌝ }
 {
-    started_out(DspSequencer::new())
+    fed_out(DspSequencer::new())
 }
 
 #[no_mangle]

@@ -2,7 +2,7 @@
 ghost use mathlib.Core.Path.{_≡_};
 ghost use denote.Ref.{now as held};
 ghost use Rattle.pi.specs.Answers.{begun};
-ghost use Rattle.host.specs.Untimed.{piStarted, piFed, piDeclined, piFeed, piResult};
+ghost use Rattle.host.specs.Untimed.{piFed, piDeclined, piFeed, piResult};
 use crate::UNKNOWN;
 use abi::action::CAction;
 use abi::action::action_out;
@@ -56,16 +56,9 @@ fn declined(seq: CPi) -> CPiFed
 
 #[no_mangle]
 pub extern "C" fn wigtalom_pi_new() -> CPiFed
-    ensures { λ r. ⌜ r ≡ piStarted begun ⌝ }
+    ensures { λ r. ⌜ r ≡ piFed begun ⌝ }
 {
-    let started = PiSequencer::new();
-    let action = started.action;
-    let seq = started.seq;
-    CPiFed {
-        refusal: 0,
-        action: action_out(action),
-        seq: pi_out(seq),
-    }
+    fed_out(PiSequencer::new())
 }
 
 #[no_mangle]

@@ -9,7 +9,7 @@ use Rattle.protocol.specs.declared.Message.{Message}
 use Rattle.protocol.specs.declared.Outcome.{Outcome}
 use Rattle.protocol.specs.Action.{noAction}
 use Rattle.protocol.specs.Refusals.{outcome, lowest}
-use Rattle.device.specs.Sends.{poll}
+use Rattle.requests.specs.Requests.{statusPoll}
 use Rattle.sequence.specs.Accepted.{bytesOutcome, resultRefusals}
 use Rattle.sequence.specs.Events.{Envelope, Event, fed}
 use Rattle.sequence.specs.Rows.{State, Moved, noDeadline, heardAt, heard, judged}
@@ -18,15 +18,14 @@ use Rattle.pi_table.specs.declared.PiStep.the-variants.{WaitStatus, WaitDevInfo
 use Rattle.pi_table.specs.declared.PiReplies.{PiReplies}
 use Rattle.pi.specs.declared.PiSequencer.{PiSequencer}
 use Rattle.pi.specs.declared.PiSync.{PiSync}
-use Rattle.pi.specs.declared.PiStarted.{PiStarted}
 use Rattle.pi.specs.declared.PiFed.{PiFed}
 use Rattle.pi.specs.declared.PiFinished.{PiFinished}
 use Rattle.pi_table.specs.Stores.{noReplies}
 use Rattle.pi_table.specs.Table.{PiRow, row, next}
 
 -- new polls the Pi
-abbrev pub begun : PiStarted
-begun = record { action = poll true BusAddr.Pi; seq = record { step = WaitStatus; replies = noReplies } }
+abbrev pub begun : PiFed
+begun = record { outcome = Outcome.Accepted; action = statusPoll true BusAddr.Pi; seq = record { step = WaitStatus; replies = noReplies } }
 
 -- the sequencer as the common rows have it, and back
 abbrev pub view : PiSequencer → State PiStep PiReplies

@@ -39,11 +39,6 @@ pub struct PiSync {
     pub password: Stored,
 }
 
-pub struct PiStarted {
-    pub action: Action,
-    pub seq: PiSequencer,
-}
-
 pub struct PiFed {
     pub outcome: Outcome,
     pub action: Action,
@@ -230,12 +225,13 @@ impl PiSequencer {
 
     // ---- the calls
 
-    pub fn new() -> PiStarted
+    pub fn new() -> PiFed
         ensures { λ r. ⌜ r ≡ begun ⌝ }
     {
         let action = request(PiStep::WaitStatus);
         let replies = no_replies();
-        PiStarted {
+        PiFed {
+            outcome: Outcome::Accepted,
             action: action,
             seq: PiSequencer {
                 step: PiStep::WaitStatus,

@@ -11,14 +11,13 @@ use Rattle.protocol.specs.declared.Command.{Command}
 use Rattle.protocol.specs.declared.Action.{Action}
 use Rattle.protocol.specs.Action.{noAction}
 use Rattle.protocol.specs.Kinds as kinds
-use Rattle.device.specs.Sends.{poll}
 use Rattle.matching.specs.Matching.{Table}
 use Rattle.sequence.specs.Events.{Envelope, Event, forever}
 use Rattle.sequence.specs.Rows.{Row, test, past}
 use Rattle.pi_table.specs.declared.PiStep.{PiStep}
 use Rattle.pi_table.specs.declared.PiStep.the-variants.{WaitStatus, WaitDevInfo, WaitParam0A, WaitCamConfig1, WaitCamConfig2, WaitNetConfig, WaitNetConfigPw, WaitParams, Done}
 use Rattle.pi_table.specs.declared.PiReplies.{PiReplies}
-use Rattle.requests.specs.Requests.{netConfigReq}
+use Rattle.requests.specs.Requests.{statusPoll, netConfigReq}
 use Rattle.pi_table.specs.Stores.{fromPi, store, toPi, paramReadReq}
 
 abbrev pub PiRow : Type 0
@@ -95,7 +94,7 @@ next Done = Done
 
 -- what is asked when a step begins: what the entry before it sends (the first step begins with `new`, which polls)
 abbrev pub request : PiStep → Action
-request WaitStatus = poll true BusAddr.Pi
+request WaitStatus = statusPoll true BusAddr.Pi
 request WaitDevInfo = toPi Command.DevInfoReq
 request WaitParam0A = paramReadReq 0x0A
 request WaitCamConfig1 = toPi Command.CamConfigReq

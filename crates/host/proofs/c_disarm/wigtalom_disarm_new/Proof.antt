@@ -5,10 +5,7 @@ use Rattle.host.proofs.c_disarm.wigtalom_disarm_new.Statement.{statemen
 use Rattle.host.proofs.c_disarm.wigtalom_disarm_new.Tie as tie
 
 returns : tie.Need-returns
-returns c = rw (c .disarm-out .ensures, c .before .action-out .ensures, c .before .before .before .before .new .ensures)
+returns c = rw (c .fed-out .ensures, c .before .new .ensures)
 
 pub wigtalom-disarm-new-spec : {M : Type 1} → statement M
-wigtalom-disarm-new-spec =
-    tie.close
-    (tie.spec
-    (λ c κs. search needs) (λ c κs. search needs) (λ c κs. search needs) returns)
+wigtalom-disarm-new-spec = tie.close (tie.spec (λ c κs. search needs) (λ c κs. search needs) returns)

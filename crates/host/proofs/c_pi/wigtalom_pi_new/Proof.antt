@@ -5,7 +5,7 @@ use Rattle.host.proofs.c_pi.wigtalom_pi_new.Statement.{statement}
 use Rattle.host.proofs.c_pi.wigtalom_pi_new.Tie as tie
 
 returns : tie.Need-returns
-returns c = rw (c .pi-out .ensures, c .before .action-out .ensures, c .before .before .before .before .new .ensures)
+returns c = rw (c .fed-out .ensures, c .before .new .ensures)
 
 pub wigtalom-pi-new-spec : {M : Type 1} → statement M
-wigtalom-pi-new-spec = tie.close (tie.spec (λ c κs. search needs) (λ c κs. search needs) (λ c κs. search needs) returns)
+wigtalom-pi-new-spec = tie.close (tie.spec (λ c κs. search needs) (λ c κs. search needs) returns)
