@@ -5,8 +5,8 @@ use mathlib.Core.Bool.{Bool, true, false, cond}
 use mathlib.Core.List.{List, [], _∷_}
 use lib.Dec.{ltb}
 use lib.ListN.{getD}
-use Rattle.arm.specs.declared.ArmStep.{ArmStep}
-use Rattle.arm.specs.declared.ArmStep.the-variants as Arm
+use Rattle.arm_steps.specs.declared.ArmStep.{ArmStep}
+use Rattle.arm_steps.specs.declared.ArmStep.the-variants as Arm
 use Rattle.arm.specs.declared.ArmSequencer.{ArmSequencer}
 use Rattle.abi_arm.specs.declared.SomeArmStep.{SomeArmStep}
 use Rattle.abi_arm.specs.declared.CArmStep.{CArmStep}

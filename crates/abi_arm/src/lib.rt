@@ -3,7 +3,7 @@ ghost use mathlib.Core.Path.{_≡_};
 ghost use mathlib.Core.Bool.{false};
 ghost use Rattle.abi_arm.specs.State.{armStepIn, armStepOut, armIn, armOut};
 use arm::ArmSequencer;
-use arm::ArmStep;
+use arm_steps::ArmStep;
 
 // `got_pi` and `got_armed` belong to step 3, and are false at any other.
 #[repr(C)]

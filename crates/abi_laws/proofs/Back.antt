@@ -35,8 +35,8 @@ use Rattle.pi_table.specs.declared.PiStep.{PiStep}
 use Rattle.pi_table.specs.declared.PiStep.the-variants as Pi
 use Rattle.avr_config.specs.declared.AvrConfigStep.{AvrConfigStep}
 use Rattle.avr_config.specs.declared.AvrConfigStep.the-variants as AvrConfig
-use Rattle.arm.specs.declared.ArmStep.{ArmStep}
-use Rattle.arm.specs.declared.ArmStep.the-variants as Arm
+use Rattle.arm_steps.specs.declared.ArmStep.{ArmStep}
+use Rattle.arm_steps.specs.declared.ArmStep.the-variants as Arm
 use Rattle.disarm.specs.declared.DisarmStep.{DisarmStep}
 use Rattle.disarm.specs.declared.DisarmStep.the-variants as Disarm
 

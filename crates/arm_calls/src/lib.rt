@@ -1,7 +1,7 @@
 // The calls of an arm, and what they answer.
 use arm::ArmFed;
 use arm::ArmSequencer;
-use arm::ArmStep;
+use arm_steps::ArmStep;
 use device::model::DeviceModel;
 use reading::call::Call;
 use reading::call::Calls;

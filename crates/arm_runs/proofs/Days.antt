@@ -11,8 +11,8 @@ use Rattle.protocol.specs.declared.DspStatus.{DspStatus}
 use Rattle.protocol.specs.Carried.{noAvrStatus}
 use Rattle.device.specs.declared.model.DeviceModel.{DeviceModel}
 use Rattle.sequence.specs.Events.{Envelope, plain}
-use Rattle.arm.specs.declared.ArmStep.{ArmStep}
-use Rattle.arm.specs.Answers.{armedBytes, cancelledBytes}
+use Rattle.arm_steps.specs.declared.ArmStep.{ArmStep}
+use Rattle.arm_steps.specs.Answers.{armedBytes, cancelledBytes}
 use Rattle.arm_runs.specs.Theorem.{run, nacks, armedSince, state}
 use Rattle.arm_runs.proofs.Whole.{right}
 

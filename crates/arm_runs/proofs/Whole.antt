@@ -19,11 +19,12 @@ use Rattle.device.specs.Model.{hasCamera}
 use Rattle.sequence.specs.Accepted.{none, bytesRefusals, bytesOutcome}
 use Rattle.sequence.specs.Events.{Envelope}
 use Rattle.sequence.proofs.Acceptance.{accepted, bytes-accepted}
-use Rattle.arm.specs.declared.ArmStep.{ArmStep}
-use Rattle.arm.specs.declared.ArmStep.the-variants.{WaitDspStatus, WaitAvrStatus, WaitArmAck, WaitPiAndArmed, Done}
+use Rattle.arm_steps.specs.declared.ArmStep.{ArmStep}
+use Rattle.arm_steps.specs.declared.ArmStep.the-variants.{WaitDspStatus, WaitAvrStatus, WaitArmAck, WaitPiAndArmed, Done}
+use Rattle.arm_steps.specs.Answers.{dspStatus, avrStatus, ack, nack, piStatus, armed}
 use Rattle.arm.specs.declared.ArmSequencer.{ArmSequencer}
 use Rattle.arm.specs.declared.ArmFed.{ArmFed}
-use Rattle.arm.specs.Answers.{dspStatus, avrStatus, ack, nack, piStatus, armed, answeredAt}
+use Rattle.arm.specs.Answers.{answeredAt}
 use Rattle.arm.specs.Calls.{after}
 use Rattle.arm.proofs.Steps.{by-step, by-bytes}
 use Rattle.arm_runs.specs.Theorem.{run, inOrder, statuses, acknowledged, counted, Nacks, nacksFrom, nacks, Theorem}

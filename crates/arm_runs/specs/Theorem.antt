@@ -12,9 +12,10 @@ use Rattle.device.specs.declared.model.DeviceModel.{DeviceModel}
 use Rattle.device.specs.Model.{hasCamera}
 use Rattle.sequence.specs.Accepted.{none, bytesRefusals}
 use Rattle.sequence.specs.Events.{Envelope}
-use Rattle.arm.specs.declared.ArmStep.{ArmStep}
+use Rattle.arm_steps.specs.declared.ArmStep.{ArmStep}
+use Rattle.arm_steps.specs.Answers.{dspStatus, avrStatus, ack, nack, piStatus, armed}
 use Rattle.arm.specs.declared.ArmSequencer.{ArmSequencer}
-use Rattle.arm.specs.Answers.{begun, dspStatus, avrStatus, ack, nack, piStatus, armed}
+use Rattle.arm.specs.Answers.{begun}
 use Rattle.arm.specs.Calls.{after}
 
 -- the feeds to which neither 1 nor 2 applies. A nack to which 13 applies is among them: it is not counted, and leads nowhere.

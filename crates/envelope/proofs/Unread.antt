@@ -7,8 +7,8 @@ use Rattle.disarm.specs.declared.DisarmStep.{DisarmStep}
 use Rattle.disarm.specs.declared.DisarmStep.the-variants as D
 use Rattle.disarm.specs.Answers as disarms
 use Rattle.arm.specs.declared.ArmSequencer.{ArmSequencer}
-use Rattle.arm.specs.declared.ArmStep.{ArmStep}
-use Rattle.arm.specs.declared.ArmStep.the-variants as A
+use Rattle.arm_steps.specs.declared.ArmStep.{ArmStep}
+use Rattle.arm_steps.specs.declared.ArmStep.the-variants as A
 use Rattle.arm.specs.Answers as arms
 use Rattle.avr_config.specs.declared.AvrConfigSequencer.{AvrConfigSequencer}
 use Rattle.avr_config.specs.declared.AvrConfigStep.{AvrConfigStep}

@@ -22,7 +22,7 @@ use Rattle.avr_table.specs.Stores.{Dated}
 use Rattle.avr.specs.declared.AvrSequencer.{AvrSequencer}
 use Rattle.avr.specs.Answers as avr
 use Rattle.pi_table.specs.Stores.{ssidIn, passwordIn}
-use Rattle.arm.specs.declared.ArmStep.{ArmStep}
+use Rattle.arm_steps.specs.declared.ArmStep.{ArmStep}
 use Rattle.arm.specs.declared.ArmSequencer.{ArmSequencer}
 use Rattle.arm.specs.Answers as arm
 use Rattle.dsp.specs.declared.DspSequencer.{DspSequencer}

@@ -2,12 +2,12 @@
 -- Assumes nothing.
 use denote.Ref.{now}
 use Rattle.device.specs.Search.{contains}
-use Rattle.arm.specs.Answers.{armedBytes, cancelledBytes}
+use Rattle.arm_steps.specs.Answers.{armedBytes, cancelledBytes}
 use mathlib.Core.Path.{_≡_, sym, _∙_}
 use mathlib.Core.Bool.{true, false, and-false, and-true}
 use borrow.Author.Needs.{needs}
-use Rattle.arm.proofs.is_armed.Statement.{statement}
-use Rattle.arm.proofs.is_armed.Tie as tie
+use Rattle.arm_steps.proofs.is_armed.Statement.{statement}
+use Rattle.arm_steps.proofs.is_armed.Tie as tie
 
 returns : tie.Need-returns
 returns c = let text = now (c .before .before .before .before .args .text) in
