@@ -19,12 +19,11 @@ use Rattle.arm_steps.specs.declared.ArmStep.{ArmStep}
 use Rattle.arm_steps.specs.declared.ArmMoved.{ArmMoved}
 use Rattle.arm_steps.specs.Answers.{movedAt}
 use Rattle.arm.specs.declared.ArmSequencer.{ArmSequencer}
-use Rattle.arm.specs.declared.ArmStarted.{ArmStarted}
 use Rattle.arm.specs.declared.ArmFed.{ArmFed}
 
 -- new polls the Dsp; with a camera the Pi is waited for
-abbrev pub begun : DeviceModel → ArmStarted
-begun m = record { action = statusPoll false BusAddr.Dsp; seq = record { step = ArmStep.WaitDspStatus; retries = 0; «wait_pi» = hasCamera m } }
+abbrev pub begun : DeviceModel → ArmFed
+begun m = record { outcome = Outcome.Accepted; action = statusPoll false BusAddr.Dsp; seq = record { step = ArmStep.WaitDspStatus; retries = 0; «wait_pi» = hasCamera m } }
 
 -- ---- a feed
 

@@ -28,11 +28,6 @@ pub struct ArmSequencer {
     pub wait_pi: bool,
 }
 
-pub struct ArmStarted {
-    pub action: Action,
-    pub seq: ArmSequencer,
-}
-
 pub struct ArmFed {
     pub outcome: Outcome,
     pub action: Action,
@@ -78,17 +73,18 @@ impl ArmSequencer {
     // ---- the calls
 
     // Arm a Mevo.
-    pub fn new() -> ArmStarted
+    pub fn new() -> ArmFed
         ensures { λ r. ⌜ r ≡ begun DeviceModel.Mevo ⌝ }
     {
         ArmSequencer::new_for(DeviceModel::Mevo)
     }
 
-    pub fn new_for(model: DeviceModel) -> ArmStarted
+    pub fn new_for(model: DeviceModel) -> ArmFed
         ensures { λ r. ⌜ r ≡ begun model ⌝ }
     {
         let action = status_poll(false, BusAddr::Dsp);
-        ArmStarted {
+        ArmFed {
+            outcome: Outcome::Accepted,
             action: action,
             seq: ArmSequencer {
                 step: ArmStep::WaitDspStatus,
