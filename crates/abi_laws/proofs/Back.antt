@@ -33,8 +33,8 @@ use Rattle.avr_steps.specs.declared.AvrStep.{AvrStep}
 use Rattle.avr_steps.specs.declared.AvrStep.the-variants as Avr
 use Rattle.pi.specs.declared.PiStep.{PiStep}
 use Rattle.pi.specs.declared.PiStep.the-variants as Pi
-use Rattle.avr_config.specs.declared.AvrConfigStep.{AvrConfigStep}
-use Rattle.avr_config.specs.declared.AvrConfigStep.the-variants as AvrConfig
+use Rattle.avr_config_steps.specs.declared.AvrConfigStep.{AvrConfigStep}
+use Rattle.avr_config_steps.specs.declared.AvrConfigStep.the-variants as AvrConfig
 use Rattle.arm.specs.declared.ArmStep.{ArmStep}
 use Rattle.arm.specs.declared.ArmStep.the-variants as Arm
 use Rattle.disarm.specs.declared.DisarmStep.{DisarmStep}
