@@ -6,8 +6,8 @@ use mathlib.Core.Bool.{true, false, cond, _&&_}
 use mathlib.Core.List.{List, [], _∷_}
 use lib.Dec.{ltb}
 use lib.ListN.{getD}
-use Rattle.avr_config.specs.declared.AvrConfigStep.{AvrConfigStep}
-use Rattle.avr_config.specs.declared.AvrConfigStep.the-variants as AvrConfig
+use Rattle.avr_config_steps.specs.declared.AvrConfigStep.{AvrConfigStep}
+use Rattle.avr_config_steps.specs.declared.AvrConfigStep.the-variants as AvrConfig
 use Rattle.avr_config.specs.declared.AvrConfigSequencer.{AvrConfigSequencer}
 use Rattle.abi.specs.Settings.{settingsIn, settingsOut}
 use Rattle.abi_avr_config.specs.declared.SomeAvrConfigStep.{SomeAvrConfigStep}

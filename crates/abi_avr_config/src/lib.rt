@@ -5,7 +5,7 @@ use abi::config::CSettings;
 use abi::config::settings_in;
 use abi::config::settings_out;
 use avr_config::AvrConfigSequencer;
-use avr_config::AvrConfigStep;
+use avr_config_steps::AvrConfigStep;
 
 // `param_idx` belongs to steps 1 and 2, and is 0 at any other.
 #[repr(C)]

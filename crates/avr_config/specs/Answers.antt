@@ -9,14 +9,15 @@ use Rattle.protocol.specs.Action.{noAction}
 use Rattle.protocol.specs.Refusals.{Applies, outcome, lowest}
 use Rattle.sequence.specs.Accepted.{applies, bytesOutcome, none}
 use Rattle.sequence.specs.Events.{Envelope, Event, fed}
-use Rattle.sequence.specs.Rows.{State, Moved, noDeadline, heardAt, heard, judged}
+use Rattle.sequence.specs.Rows.{judged}
 use Rattle.settings.specs.declared.AvrSettings.{AvrSettings}
 use Rattle.settings.specs.Settings.{modeOnly, kept}
-use Rattle.avr_config.specs.declared.AvrConfigStep.{AvrConfigStep}
-use Rattle.avr_config.specs.declared.AvrConfigStep.the-variants.{WaitInitGateAck}
+use Rattle.avr_config_steps.specs.declared.AvrConfigStep.the-variants.{WaitInitGateAck}
+use Rattle.avr_config_steps.specs.declared.AvrConfigMoved.{AvrConfigMoved}
+use Rattle.avr_config_steps.specs.Table.{commit}
+use Rattle.avr_config_steps.specs.Answers as steps
 use Rattle.avr_config.specs.declared.AvrConfigSequencer.{AvrConfigSequencer}
 use Rattle.avr_config.specs.declared.AvrConfigFed.{AvrConfigFed}
-use Rattle.avr_config.specs.Table.{commit, request, row, next}
 
 -- 4: a settings list of more than 32 parameters
 abbrev pub settingsRefusals : AvrSettings → List Applies
@@ -34,27 +35,16 @@ begun s = record {
   seq = record { step = WaitInitGateAck; settings = running s };
 }
 
--- the sequencer as the common rows have it, and back
-abbrev pub view : AvrConfigSequencer → State AvrConfigStep (Unit {0})
-view s = record { step = s .step; replies = tt; deadline = noDeadline }
-
-abbrev pub made : AvrSettings → Moved AvrConfigStep (Unit {0}) → AvrConfigFed
-made s w = record { outcome = Outcome.Accepted; action = w .action; seq = record { step = w .state .step; settings = s } }
+-- what an accepted envelope does; the settings stay
+abbrev pub accepted : AvrSettings → AvrConfigMoved → AvrConfigFed
+accepted q w = record { outcome = Outcome.Accepted; action = w .action; seq = record { step = w .step; settings = q } }
 
 -- no send, and the sequencer as before
 abbrev pub refused : AvrConfigSequencer → Outcome → AvrConfigFed
 refused s o = record { outcome = o; action = noAction; seq = s }
 
 abbrev pub advance : AvrConfigSequencer → Event Envelope → AvrConfigFed
-advance s e = made (s .settings) (heard (row (s .settings)) (next (s .settings)) (view s) e)
+advance s e = accepted (s .settings) (steps.advance (s .settings) (s .step) e)
 
 abbrev pub fedTo : AvrConfigSequencer → Envelope → AvrConfigFed
 fedTo s e = judged (bytesOutcome (e .text) (e .payload)) (advance s (fed e 0)) (refused s)
-
--- the step k begins: its request is sent
-abbrev pub goes : AvrConfigSequencer → AvrConfigStep → AvrConfigFed
-goes s k = record { outcome = Outcome.Accepted; action = request (s .settings) k; seq = record { step = k; settings = s .settings } }
-
--- one step's part of it
-abbrev pub armAt : AvrConfigStep → AvrConfigSequencer → Event Envelope → AvrConfigFed
-armAt k s e = made (s .settings) (heardAt (row (s .settings) k) (next (s .settings) k) (row (s .settings) (next (s .settings) k)) (view s) e)

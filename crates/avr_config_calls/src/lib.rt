@@ -4,7 +4,7 @@ mod stored;
 
 use avr_config::AvrConfigFed;
 use avr_config::AvrConfigSequencer;
-use avr_config::AvrConfigStep;
+use avr_config_steps::AvrConfigStep;
 use reading::call::Call;
 use reading::call::Calls;
 use reading::call::Feed;

@@ -18,9 +18,9 @@ use Rattle.sequence.specs.Events.{checked, reading, plain}
 use Rattle.sequence.specs.Calls.{Fed, Untimed, fedEvent}
 use Rattle.settings.specs.declared.AvrSettings.{AvrSettings}
 use Rattle.settings.specs.Settings.{noParam}
-use Rattle.avr_config.specs.declared.AvrConfigStep.{AvrConfigStep}
+use Rattle.avr_config_steps.specs.declared.AvrConfigStep.{AvrConfigStep}
+use Rattle.avr_config_steps.specs.Table.{table}
 use Rattle.avr_config.specs.declared.AvrConfigSequencer.{AvrConfigSequencer}
-use Rattle.avr_config.specs.Table.{table}
 use Rattle.avr_config.specs.Answers.{running, begun}
 use Rattle.avr_config.specs.Calls.{after}
 use Rattle.avr_config_runs.proofs.Whole.{anti, sequencer, isDone, right}

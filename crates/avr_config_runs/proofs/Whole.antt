@@ -19,12 +19,13 @@ use Rattle.sequence.proofs.Fed as fed
 use Rattle.sequence.proofs.Standing as rows
 use Rattle.settings.specs.declared.AvrSettings.{AvrSettings}
 use Rattle.settings.specs.Settings.{count}
-use Rattle.avr_config.specs.declared.AvrConfigStep.{AvrConfigStep}
-use Rattle.avr_config.specs.declared.AvrConfigStep.the-variants.{WaitInitGateAck, WaitParamAck, WaitParamCommitAck, WaitModeEcho, WaitModeCommitAck, WaitRadarCalEcho, WaitRadarCalCommitAck, Done}
+use Rattle.avr_config_steps.specs.declared.AvrConfigStep.{AvrConfigStep}
+use Rattle.avr_config_steps.specs.declared.AvrConfigStep.the-variants.{WaitInitGateAck, WaitParamAck, WaitParamCommitAck, WaitModeEcho, WaitModeCommitAck, WaitRadarCalEcho, WaitRadarCalCommitAck, Done}
+use Rattle.avr_config_steps.specs.Table.{row, next, paramSteps, paramStep, stepsFor, table}
+use Rattle.avr_config_steps.specs.Answers as steps
 use Rattle.avr_config.specs.declared.AvrConfigSequencer.{AvrConfigSequencer}
 use Rattle.avr_config.specs.declared.AvrConfigFed.{AvrConfigFed}
-use Rattle.avr_config.specs.Table.{row, next, paramSteps, paramStep, stepsFor, table}
-use Rattle.avr_config.specs.Answers.{running, view, advance, refused}
+use Rattle.avr_config.specs.Answers.{running, advance, refused}
 use Rattle.avr_config.specs.Calls.{after}
 use Rattle.avr_config_runs.specs.Theorem.{Theorem}
 
@@ -37,6 +38,9 @@ isDone WaitModeCommitAck = false
 isDone WaitRadarCalEcho = false
 isDone WaitRadarCalCommitAck = false
 isDone Done = true
+
+abbrev view : AvrConfigSequencer → State AvrConfigStep (Unit {0})
+view s = steps.view (s .step)
 
 module _ (q : AvrSettings) where
   abbrev Chained : List AvrConfigStep → Type 0

@@ -7,8 +7,8 @@ use Rattle.matching.specs.Promise.{Ends}
 use Rattle.sequence.specs.Events.{checked, reading}
 use Rattle.sequence.specs.Calls.{Fed, fedEvent}
 use Rattle.settings.specs.declared.AvrSettings.{AvrSettings}
-use Rattle.avr_config.specs.declared.AvrConfigStep.{AvrConfigStep}
-use Rattle.avr_config.specs.Table.{table}
+use Rattle.avr_config_steps.specs.declared.AvrConfigStep.{AvrConfigStep}
+use Rattle.avr_config_steps.specs.Table.{table}
 use Rattle.avr_config.specs.Answers.{running, begun}
 use Rattle.avr_config.specs.Calls.{after}
 

@@ -10,9 +10,9 @@ use Rattle.arm.specs.declared.ArmSequencer.{ArmSequencer}
 use Rattle.arm_steps.specs.declared.ArmStep.{ArmStep}
 use Rattle.arm_steps.specs.declared.ArmStep.the-variants as A
 use Rattle.arm.specs.Answers as arms
+use Rattle.avr_config_steps.specs.declared.AvrConfigStep.{AvrConfigStep}
+use Rattle.avr_config_steps.specs.declared.AvrConfigStep.the-variants as C
 use Rattle.avr_config.specs.declared.AvrConfigSequencer.{AvrConfigSequencer}
-use Rattle.avr_config.specs.declared.AvrConfigStep.{AvrConfigStep}
-use Rattle.avr_config.specs.declared.AvrConfigStep.the-variants as C
 use Rattle.avr_config.specs.Answers as configs
 use Rattle.pi.specs.declared.PiSequencer.{PiSequencer}
 use Rattle.pi_table.specs.declared.PiStep.{PiStep}

@@ -17,8 +17,8 @@ use Rattle.sequence.specs.Events.{Envelope, Event, kind, forever}
 use Rattle.sequence.specs.Rows.{Row, test, past}
 use Rattle.settings.specs.declared.AvrSettings.{AvrSettings}
 use Rattle.settings.specs.Settings.{noParam, count}
-use Rattle.avr_config.specs.declared.AvrConfigStep.{AvrConfigStep}
-use Rattle.avr_config.specs.declared.AvrConfigStep.the-variants.{WaitInitGateAck, WaitParamAck, WaitParamCommitAck, WaitModeEcho, WaitModeCommitAck, WaitRadarCalEcho, WaitRadarCalCommitAck, Done}
+use Rattle.avr_config_steps.specs.declared.AvrConfigStep.{AvrConfigStep}
+use Rattle.avr_config_steps.specs.declared.AvrConfigStep.the-variants.{WaitInitGateAck, WaitParamAck, WaitParamCommitAck, WaitModeEcho, WaitModeCommitAck, WaitRadarCalEcho, WaitRadarCalCommitAck, Done}
 
 abbrev pub ConfigRow : Type 0
 ConfigRow = Row Envelope (Unit {0})
