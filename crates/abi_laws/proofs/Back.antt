@@ -27,10 +27,10 @@ use Rattle.abi_avr_config.specs.State.{avrConfigStepIn, avrConfigStepOut}
 use Rattle.abi_arm.specs.State.{armStepIn, armStepOut}
 use Rattle.abi_disarm.specs.State.{disarmStepIn, disarmStepOut}
 use Rattle.abi_laws.specs.Theorem.{messageOut, commandIn, Back}
-use Rattle.dsp_steps.specs.declared.DspStep.{DspStep}
-use Rattle.dsp_steps.specs.declared.DspStep.the-variants as Dsp
-use Rattle.avr_steps.specs.declared.AvrStep.{AvrStep}
-use Rattle.avr_steps.specs.declared.AvrStep.the-variants as Avr
+use Rattle.dsp_table.specs.declared.DspStep.{DspStep}
+use Rattle.dsp_table.specs.declared.DspStep.the-variants as Dsp
+use Rattle.avr_table.specs.declared.AvrStep.{AvrStep}
+use Rattle.avr_table.specs.declared.AvrStep.the-variants as Avr
 use Rattle.pi_table.specs.declared.PiStep.{PiStep}
 use Rattle.pi_table.specs.declared.PiStep.the-variants as Pi
 use Rattle.avr_config_steps.specs.declared.AvrConfigStep.{AvrConfigStep}
