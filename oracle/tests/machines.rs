@@ -260,7 +260,7 @@ fn machines_and_tables_agree() {
         ("DSP start-up", "dsp_table"),
         ("AVR start-up", "avr_table"),
         ("Pi start-up", "pi_table"),
-        ("Settings run", "avr_config"),
+        ("Settings run", "avr_config_steps"),
         ("Disarm", "disarm"),
     ];
     for (section, krate) in tables {
