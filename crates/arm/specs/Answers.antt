@@ -58,5 +58,6 @@ fedTo s e = judged (outcome (lowest (armRefusals s e))) (accepted s (advance s e
 abbrev pub counted : ArmSequencer → ArmMoved → ArmFed
 counted s w = judged (outcome (lowest (retriesRefusals s w))) (accepted s w) (refused s)
 
+-- the same, at a step
 abbrev pub answeredAt : ArmStep → ArmSequencer → Envelope → ArmFed
 answeredAt k s e = counted s (movedAt k (s .«wait_pi») e)

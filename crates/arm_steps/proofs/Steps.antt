@@ -2,13 +2,15 @@
 -- Assumes nothing.
 use Prim.Native.Nat.{ℕ}
 use mathlib.Core.Path.{_≡_, refl, sym, ap}
-use mathlib.Core.Bool.{Bool, true, false, _&&_, _||_, and-false}
+use mathlib.Core.Bool.{Bool, true, false, _&&_, _||_, and-false, or-true, or-false}
 use lib.Dec.{eqb}
+use Rattle.protocol.specs.declared.Message.{Message}
 use Rattle.protocol.specs.Addr.{byteOf}
+use Rattle.protocol.specs.Kinds.{tag}
 use Rattle.sequence.specs.Events.{Envelope, plain, ofKind, kind}
 use Rattle.arm_steps.specs.declared.ArmStep.{ArmStep}
 use Rattle.arm_steps.specs.declared.ArmStep.the-variants.{WaitDspStatus, WaitAvrStatus, WaitArmAck, WaitPiAndArmed, Done}
-use Rattle.arm_steps.specs.Answers.{dspStatus, avrStatus, nack, ack, piStatus, armed, noSend, gathered, movedAt}
+use Rattle.arm_steps.specs.Answers.{dspStatus, avrStatus, nack, ack, piStatus, isArmed, armed, noSend, gathered, movedAt}
 
 -- an envelope of another kind, or from another device
 pub other-kind : (n k : ℕ) (e : Envelope) → ofKind k e ≡ false → kind n k e ≡ false
@@ -29,6 +31,24 @@ done-idles k pi e s = rw s
 
 pub ack-idles : (pi : Bool) (e : Envelope) → (nack e ≡ false) × (ack e ≡ false) → noSend WaitArmAck ≡ movedAt WaitArmAck pi e
 ack-idles pi e h = rw (h .0, h .1)
+
+-- a message of a kind that is known
+pub of-kind : (m n : Message) → m ≡ n → (k : ℕ) → eqb (tag m) k ≡ eqb (tag n) k
+of-kind m n h k = ap (λ (x : Message). eqb (tag x) k) h
+
+-- a text that says that the unit is armed, or not; another message doesn't
+pub says : (e : Envelope) (b : Bool) → ofKind 6 e ≡ true → isArmed (e .text) ≡ b → armed e ≡ b
+says e b h i = rw (h, i)
+
+pub no-text : (e : Envelope) → ofKind 6 e ≡ false → armed e ≡ false
+no-text e h = rw h
+
+-- what has come stays so
+pub comes : (b x : Bool) → x ≡ true → true ≡ b || x
+comes b x h = rw h (sym (or-true b))
+
+pub stays : (b x : Bool) → x ≡ false → b ≡ b || x
+stays b x h = rw h (sym (or-false b))
 
 -- which of the two have come then
 pub gathers : (pi arm x y : Bool) (e : Envelope) → (x ≡ pi || piStatus e) × (y ≡ arm || armed e)

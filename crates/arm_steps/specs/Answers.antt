@@ -69,8 +69,9 @@ taken pi = cond pi (send (statusPoll true BusAddr.Pi) (WaitPiAndArmed false fals
 abbrev pub gathered : Bool → Bool → ArmMoved
 gathered pi arm = noSend (cond (pi && arm) Done (WaitPiAndArmed pi arm))
 
--- ---- a feed at a step, of an arm that waits for the Pi or not
+-- ---- a feed at a step; pi: whether the Pi is waited for
 
+-- DspStatus from Dsp, AvrStatus from Avr, ConfigNack or ConfigAck from Avr; last PiStatus and the armed text, in either order. Any other leads nowhere.
 abbrev pub movedAt : ArmStep → Bool → Envelope → ArmMoved
 movedAt WaitDspStatus pi e = cond (dspStatus e) (send (statusPoll false BusAddr.Avr) WaitAvrStatus) (noSend WaitDspStatus)
 movedAt WaitAvrStatus pi e = cond (avrStatus e) (send (avrConfigCmd true) WaitArmAck) (noSend WaitAvrStatus)

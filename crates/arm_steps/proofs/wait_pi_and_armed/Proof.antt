@@ -2,13 +2,14 @@
 -- Assumes nothing.
 use mathlib.Core.Path.{_≡_, sym, _∙_}
 use mathlib.Core.Logic.{⊎-elim}
-use mathlib.Core.Bool.{_||_, or-true, or-false}
+use mathlib.Core.Bool.{true, false, _||_}
 use denote.Ref.{now}
 use Rattle.protocol.specs.declared.BusAddr.{BusAddr}
+use Rattle.protocol.specs.declared.Message.{Message}
 use Rattle.protocol.proofs.Arms.{but, kinds, none-of}
 use Rattle.sequence.specs.Events.{plain}
 use Rattle.arm_steps.specs.Answers.{piStatus, armed}
-use Rattle.arm_steps.proofs.Steps.{gathers, both, not-both}
+use Rattle.arm_steps.proofs.Steps.{of-kind, says, no-text, comes, stays, gathers, both, not-both}
 use borrow.Author.Needs.{needs}
 use Rattle.arm_steps.proofs.wait_pi_and_armed.Statement.{statement}
 use Rattle.arm_steps.proofs.wait_pi_and_armed.Tie as tie
@@ -21,18 +22,20 @@ returns c = let a = c .before .before .before .before .args in
     let ks = but 2 (but 6 kinds) in
     let come : (x ≡ a .got-pi || piStatus e) × (y ≡ a .got-armed || armed e) =
     ⊎-elim
-    (λ w. (w .2 ∙ rw (w .1 .given .1) (sym (or-true (a .got-pi))), w .3 ∙ rw (w .1 .given .1) (sym (or-false (a .got-armed)))))
+    (λ w.
+    let told = of-kind (a .message) Message.PiStatus (w .1 .given .1) in
+    (w .2 ∙ comes (a .got-pi) (piStatus e) (told 2), w .3 ∙ stays (a .got-armed) (armed e) (no-text e (told 6))))
     (⊎-elim
     (λ w.
-    let said = sym (w .2 .ensures) ∙ w .3 .taken in
-    (w .4 ∙ rw (w .1 .given .1) (sym (or-false (a .got-pi))), w .5 ∙ rw (w .1 .given .1, said) (sym (or-true (a .got-armed)))))
+    let told = of-kind (a .message) Message.Text (w .1 .given .1) in
+    (w .4 ∙ stays (a .got-pi) (piStatus e) (told 2), w .5 ∙ comes (a .got-armed) (armed e) (says e true (told 6) (sym (w .2 .ensures) ∙ w .3 .taken))))
     (⊎-elim
     (λ w.
-    let said = sym (w .2 .ensures) ∙ w .3 .left in
-    (w .4 ∙ rw (w .1 .given .1) (sym (or-false (a .got-pi))), w .5 ∙ rw (w .1 .given .1, said) (sym (or-false (a .got-armed)))))
+    let told = of-kind (a .message) Message.Text (w .1 .given .1) in
+    (w .4 ∙ stays (a .got-pi) (piStatus e) (told 2), w .5 ∙ stays (a .got-armed) (armed e) (says e false (told 6) (sym (w .2 .ensures) ∙ w .3 .left))))
     (λ w. (
-      w .1 ∙ rw (none-of ks 2 (a .message) tt (w .0 .keys3)) (sym (or-false (a .got-pi))),
-      w .2 ∙ rw (none-of ks 6 (a .message) tt (w .0 .keys3)) (sym (or-false (a .got-armed))),
+      w .1 ∙ stays (a .got-pi) (piStatus e) (none-of ks 2 (a .message) tt (w .0 .keys3)),
+      w .2 ∙ stays (a .got-armed) (armed e) (no-text e (none-of ks 6 (a .message) tt (w .0 .keys3))),
     ))))
     (c .before .before .match .came)
     in
