@@ -13,7 +13,6 @@ use Rattle.avr_config.specs.Answers as config
 use Rattle.arm.specs.declared.ArmFed.{ArmFed}
 use Rattle.arm.specs.Answers as arm
 use Rattle.disarm.specs.declared.DisarmFed.{DisarmFed}
-use Rattle.disarm.specs.declared.DisarmFed.{DisarmFed}
 use Rattle.disarm.specs.Answers as disarm
 use Rattle.abi_values.specs.Numbers.{modelIn, refusalOut}
 use Rattle.abi_messages.specs.declared.CEnvelope.{CEnvelope}
@@ -97,9 +96,6 @@ abbrev pub armRetries : CArm → CRetries
 armRetries c = cond (armIn c .known) (record { refusal = 0; retries = armIn c .seq .retries }) (record { refusal = unknown; retries = 0 })
 
 -- ---- disarm
-
-abbrev pub disarmFed : DisarmFed → CDisarmFed
-disarmFed s = record { refusal = 0; action = actionOut (s .action); seq = disarmOut (s .seq) }
 
 abbrev pub disarmFed : DisarmFed → CDisarmFed
 disarmFed f = record { refusal = refusalOut (f .outcome); action = actionOut (f .action); seq = disarmOut (f .seq) }
