@@ -10,19 +10,13 @@ use reading::call::Call;
 use reading::call::Calls;
 use reading::call::Feed;
 use scanning::bytes::BYTES;
-use streams::INPUT;
-use streams::LONGER;
-use streams::Stream;
-use streams::next::Turn;
-use streams::next::next;
-use words::kinds::Kinds;
 use words::kinds::VALUES;
 use words::part;
 use writing::send;
 use writing::write;
 use writing::write::OUT;
 
-const CALLS: Calls = Calls {
+pub const CALLS: Calls = Calls {
     feed: true,
     check: true,
     result: true,
@@ -31,45 +25,40 @@ const CALLS: Calls = Calls {
 };
 
 // The start-up after a call, and the end of the answer.
-struct Answered {
-    avr: AvrSequencer,
-    at: usize,
+pub struct Answered {
+    pub avr: AvrSequencer,
+    pub at: usize,
 }
 
-fn number_of(step: AvrStep) -> usize {
+// A step's name has so many bytes among the names, with the blanks behind it.
+const WIDTH: usize = 16;
+
+// Where a step's name begins.
+fn place_of(step: AvrStep) -> usize {
     match step {
         AvrStep::WaitStatus1 => 0,
-        AvrStep::WaitStatus2 => 1,
-        AvrStep::WaitDevInfo1 => 2,
-        AvrStep::WaitDevInfo2 => 3,
-        AvrStep::WaitParam0C => 4,
-        AvrStep::WaitParam0D => 5,
-        AvrStep::WaitConfig => 6,
-        AvrStep::WaitFactoryCal => 7,
-        AvrStep::WaitIfCal => 8,
-        AvrStep::WaitAvrConfig => 9,
-        AvrStep::WaitParam64 => 10,
-        AvrStep::WaitTimeSync => 11,
-        AvrStep::Done => 12,
+        AvrStep::WaitStatus2 => 16,
+        AvrStep::WaitDevInfo1 => 32,
+        AvrStep::WaitDevInfo2 => 48,
+        AvrStep::WaitParam0C => 64,
+        AvrStep::WaitParam0D => 80,
+        AvrStep::WaitConfig => 96,
+        AvrStep::WaitFactoryCal => 112,
+        AvrStep::WaitIfCal => 128,
+        AvrStep::WaitAvrConfig => 144,
+        AvrStep::WaitParam64 => 160,
+        AvrStep::WaitTimeSync => 176,
+        AvrStep::Done => 192,
     }
 }
 
 fn name(out: &mut [u8; OUT], at: usize, step: AvrStep) -> usize {
-    match step {
-        AvrStep::WaitStatus1 => write::text(out, at, b"WaitStatus1"),
-        AvrStep::WaitStatus2 => write::text(out, at, b"WaitStatus2"),
-        AvrStep::WaitDevInfo1 => write::text(out, at, b"WaitDevInfo1"),
-        AvrStep::WaitDevInfo2 => write::text(out, at, b"WaitDevInfo2"),
-        AvrStep::WaitParam0C => write::text(out, at, b"WaitParam0C"),
-        AvrStep::WaitParam0D => write::text(out, at, b"WaitParam0D"),
-        AvrStep::WaitConfig => write::text(out, at, b"WaitConfig"),
-        AvrStep::WaitFactoryCal => write::text(out, at, b"WaitFactoryCal"),
-        AvrStep::WaitIfCal => write::text(out, at, b"WaitIfCal"),
-        AvrStep::WaitAvrConfig => write::text(out, at, b"WaitAvrConfig"),
-        AvrStep::WaitParam64 => write::text(out, at, b"WaitParam64"),
-        AvrStep::WaitTimeSync => write::text(out, at, b"WaitTimeSync"),
-        AvrStep::Done => write::text(out, at, b"Done"),
-    }
+    let names =
+        b"WaitStatus1     WaitStatus2     WaitDevInfo1    WaitDevInfo2    WaitParam0C     WaitParam0D     \
+        WaitConfig      WaitFactoryCal  WaitIfCal       WaitAvrConfig   WaitParam64     WaitTimeSync    \
+        Done ";
+    let from = place_of(step);
+    write::choice(out, at, 0, part(names, from, names.len()), b' ')
 }
 
 fn step_of(avr: AvrSequencer) -> AvrStep {
@@ -77,11 +66,10 @@ fn step_of(avr: AvrSequencer) -> AvrStep {
     state.step
 }
 
-fn begin(model: DeviceModel, out: &mut [u8; OUT], at: usize) -> Answered {
+pub fn begin(model: DeviceModel, out: &mut [u8; OUT], at: usize) -> Answered {
     let started = AvrSequencer::new_for(model);
-    let action = started.action;
     let avr = started.seq;
-    let end = send::sent(out, at, action);
+    let end = send::sent(out, at, started.action);
     Answered {
         avr: avr,
         at: name(out, end, step_of(avr)),
@@ -91,10 +79,9 @@ fn begin(model: DeviceModel, out: &mut [u8; OUT], at: usize) -> Answered {
 // The answer to a call before which this step was awaited. Each step has one entry.
 fn fed(out: &mut [u8; OUT], at: usize, before: AvrStep, fed: AvrFed) -> Answered {
     let outcome = fed.outcome;
-    let action = fed.action;
     let avr = fed.seq;
-    let ticked = send::ticked(number_of(before), number_of(step_of(avr)));
-    let end = send::fed(out, at, outcome, ticked, action);
+    let ticked = send::ticked(place_of(before) / WIDTH, place_of(step_of(avr)) / WIDTH);
+    let end = send::fed(out, at, outcome, ticked, fed.action);
     Answered {
         avr: avr,
         at: name(out, end, step_of(avr)),
@@ -138,67 +125,32 @@ fn result(avr: AvrSequencer, out: &mut [u8; OUT], at: usize) -> usize {
     if let Outcome::Refused(_) = outcome {
         return end;
     }
-    let sync = finished.sync;
-    stored::sync(out, end, sync)
+    stored::sync(out, end, finished.sync)
 }
 
-// A call of a start-up that has begun: `result`, where it is no other.
-fn call(
-    done: Answered,
-    turn: Turn,
+// A call: the beginning, or one of a start-up that has begun, `result` where it is no other. Behind the answer stands every stored
+// field, if they are asked for.
+pub fn call(
+    avr: AvrSequencer,
+    model: DeviceModel,
+    asked: Call,
+    with_state: bool,
     values: &[u64; VALUES],
     bytes: &[u8; BYTES],
     out: &mut [u8; OUT],
+    at: usize,
 ) -> Answered {
-    let avr = done.avr;
-    let at = turn.stream.out;
-    let asked = turn.call;
-    match asked {
+    let mut after = match asked {
+        Call::Begin(_) => begin(model, out, at),
         Call::Feed(envelope) => feed(avr, envelope, values, bytes, out, at),
         Call::Check(now) => check(avr, now, out, at),
         _ => Answered {
             avr: avr,
             at: result(avr, out, at),
         },
+    };
+    if with_state {
+        after.at = stored::state(out, after.at, after.avr);
     }
-}
-
-// Ends an answer, with every stored field if they are asked for.
-fn end(done: Answered, stream: Stream, out: &mut [u8; OUT]) -> Stream {
-    if stream.with_state {
-        let avr = done.avr;
-        let state = avr.state;
-        let end = stored::state(out, done.at, avr.last, state);
-        return stream.answered(out, end);
-    }
-    stream.answered(out, done.at)
-}
-
-// A start-up from its beginning, whose number is written, to the beginning of the next sequence or the end of the list. The calls
-// are counted down, as reads are.
-pub fn run(
-    model: DeviceModel,
-    stream: Stream,
-    kinds: &Kinds,
-    input: &mut [u8; INPUT],
-    line: &mut [u8; LONGER],
-    values: &mut [u64; VALUES],
-    bytes: &mut [u8; BYTES],
-    out: &mut [u8; OUT],
-) -> Turn {
-    let mut done = begin(model, out, stream.out);
-    let mut turn = Turn::without_call(stream);
-    let mut turns = u64::MAX;
-    loop {
-        let ended = end(done, turn.stream, out);
-        turn = next(ended, CALLS, kinds, input, line, values, bytes, out);
-        if turn.leaves() {
-            return turn;
-        }
-        done = call(done, turn, values, bytes, out);
-        if turns == 0 {
-            return turn;
-        }
-        turns -= 1;
-    }
+    after
 }

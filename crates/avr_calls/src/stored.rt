@@ -1,6 +1,6 @@
 // Writes what an AVR start-up stores.
+use avr::AvrSequencer;
 use avr::AvrSync;
-use avr_steps::AvrState;
 use avr_table::AvrReplies;
 use avr_table::OptionAvrConfigResp;
 use avr_table::OptionAvrStatus;
@@ -37,8 +37,7 @@ fn status(out: &mut [u8; OUT], at: usize, s: AvrStatus) -> usize {
 
 fn optional_status(out: &mut [u8; OUT], at: usize, s: OptionAvrStatus) -> usize {
     if s.some {
-        let value = s.value;
-        return status(out, at, value);
+        return status(out, at, s.value);
     }
     fields::none(out, at, b"status")
 }
@@ -47,27 +46,21 @@ fn optional_status(out: &mut [u8; OUT], at: usize, s: OptionAvrStatus) -> usize 
 
 fn factory_cal(out: &mut [u8; OUT], at: usize, cal: OptionCalDataResp) -> usize {
     if cal.some {
-        let value = cal.value;
-        let payload = value.payload;
-        return fields::stored(out, at, b"factory_cal=payload", payload);
+        return fields::stored(out, at, b"factory_cal=payload", cal.value.payload);
     }
     fields::none(out, at, b"factory_cal")
 }
 
 fn if_cal(out: &mut [u8; OUT], at: usize, cal: OptionCalParamResp) -> usize {
     if cal.some {
-        let value = cal.value;
-        let payload = value.payload;
-        return fields::stored(out, at, b"if_cal=payload", payload);
+        return fields::stored(out, at, b"if_cal=payload", cal.value.payload);
     }
     fields::none(out, at, b"if_cal")
 }
 
 fn avr_config(out: &mut [u8; OUT], at: usize, config: OptionAvrConfigResp) -> usize {
     if config.some {
-        let value = config.value;
-        let payload = value.payload;
-        return fields::stored(out, at, b"avr_config=payload", payload);
+        return fields::stored(out, at, b"avr_config=payload", config.value.payload);
     }
     fields::none(out, at, b"avr_config")
 }
@@ -86,40 +79,25 @@ fn last_replies(
 }
 
 pub fn sync(out: &mut [u8; OUT], at: usize, s: AvrSync) -> usize {
-    let value = s.status;
-    let dev = s.dev_info;
-    let config = s.config;
-    let factory = s.factory_cal;
-    let cal = s.if_cal;
-    let avr = s.avr_config;
     let mut end = write::byte(out, at, b';');
-    end = status(out, end, value);
-    end = records::dev_info(out, end, dev);
-    end = records::config(out, end, config);
-    last_replies(out, end, factory, cal, avr)
+    end = status(out, end, s.status);
+    end = records::dev_info(out, end, s.dev_info);
+    end = records::config(out, end, s.config);
+    last_replies(out, end, s.factory_cal, s.if_cal, s.avr_config)
 }
 
 fn replies(out: &mut [u8; OUT], at: usize, r: AvrReplies) -> usize {
-    let value = r.status;
-    let dev = r.dev_info;
-    let config = r.config;
-    let factory = r.factory_cal;
-    let cal = r.if_cal;
-    let avr = r.avr_config;
-    let mut end = optional_status(out, at, value);
-    end = records::optional_dev_info(out, end, dev);
-    end = records::optional_config(out, end, config);
-    last_replies(out, end, factory, cal, avr)
+    let mut end = optional_status(out, at, r.status);
+    end = records::optional_dev_info(out, end, r.dev_info);
+    end = records::optional_config(out, end, r.config);
+    last_replies(out, end, r.factory_cal, r.if_cal, r.avr_config)
 }
 
 // Every stored field.
-pub fn state(out: &mut [u8; OUT], at: usize, last: u64, s: AvrState) -> usize {
-    let stored = s.replies;
-    let deadline = s.cal_deadline;
-    let repoll = s.repoll_at;
+pub fn state(out: &mut [u8; OUT], at: usize, avr: AvrSequencer) -> usize {
     let mut end = write::text(out, at, b"; state");
-    end = fields::number(out, end, b"last", last);
-    end = replies(out, end, stored);
-    end = records::instant(out, end, b"cal_deadline", deadline);
-    records::instant(out, end, b"repoll_at", repoll)
+    end = fields::number(out, end, b"last", avr.last);
+    end = replies(out, end, avr.state.replies);
+    end = records::instant(out, end, b"cal_deadline", avr.state.cal_deadline);
+    records::instant(out, end, b"repoll_at", avr.state.repoll_at)
 }

@@ -10,12 +10,6 @@ use reading::call::Calls;
 use reading::call::Feed;
 use reading::settings::Settings;
 use scanning::bytes::BYTES;
-use streams::INPUT;
-use streams::LONGER;
-use streams::Stream;
-use streams::next::Turn;
-use streams::next::next;
-use words::kinds::Kinds;
 use words::kinds::VALUES;
 use words::part;
 use writing::fields;
@@ -23,7 +17,7 @@ use writing::send;
 use writing::write;
 use writing::write::OUT;
 
-const CALLS: Calls = Calls {
+pub const CALLS: Calls = Calls {
     feed: true,
     check: false,
     result: false,
@@ -35,9 +29,9 @@ const CALLS: Calls = Calls {
 const FIRST: usize = 0;
 
 // The run after a call, and the end of the answer.
-struct Answered {
-    run: AvrConfigSequencer,
-    at: usize,
+pub struct Answered {
+    pub run: AvrConfigSequencer,
+    pub at: usize,
 }
 
 // Twice a number of parameters, which are few, and something more.
@@ -61,8 +55,29 @@ fn entry_of(step: AvrConfigStep, params: usize) -> usize {
 
 fn awaited(run: AvrConfigSequencer) -> usize {
     let step = run.step;
-    let settings = run.settings;
-    entry_of(step, settings.len)
+    entry_of(step, run.settings.len)
+}
+
+// Where a step's name begins: each has 24 bytes, with the blanks behind it.
+fn place_of(step: AvrConfigStep) -> usize {
+    match step {
+        AvrConfigStep::WaitInitGateAck => 0,
+        AvrConfigStep::WaitParamAck { param_idx: _ } => 24,
+        AvrConfigStep::WaitParamCommitAck { param_idx: _ } => 48,
+        AvrConfigStep::WaitModeEcho => 72,
+        AvrConfigStep::WaitModeCommitAck => 96,
+        AvrConfigStep::WaitRadarCalEcho => 120,
+        AvrConfigStep::WaitRadarCalCommitAck => 144,
+        AvrConfigStep::Done => 168,
+    }
+}
+
+fn word(out: &mut [u8; OUT], at: usize, step: AvrConfigStep) -> usize {
+    let names =
+        b"WaitInitGateAck         WaitParamAck            WaitParamCommitAck      WaitModeEcho            \
+        WaitModeCommitAck       WaitRadarCalEcho        WaitRadarCalCommitAck   Done ";
+    let from = place_of(step);
+    write::choice(out, at, 0, part(names, from, names.len()), b' ')
 }
 
 fn index(out: &mut [u8; OUT], at: usize, param_idx: usize) -> usize {
@@ -70,39 +85,33 @@ fn index(out: &mut [u8; OUT], at: usize, param_idx: usize) -> usize {
 }
 
 fn name(out: &mut [u8; OUT], at: usize, step: AvrConfigStep) -> usize {
+    let end = word(out, at, step);
     match step {
-        AvrConfigStep::WaitInitGateAck => write::text(out, at, b"WaitInitGateAck"),
-        AvrConfigStep::WaitParamAck { param_idx } => {
-            let end = write::text(out, at, b"WaitParamAck");
-            index(out, end, param_idx)
-        }
-        AvrConfigStep::WaitParamCommitAck { param_idx } => {
-            let end = write::text(out, at, b"WaitParamCommitAck");
-            index(out, end, param_idx)
-        }
-        AvrConfigStep::WaitModeEcho => write::text(out, at, b"WaitModeEcho"),
-        AvrConfigStep::WaitModeCommitAck => write::text(out, at, b"WaitModeCommitAck"),
-        AvrConfigStep::WaitRadarCalEcho => write::text(out, at, b"WaitRadarCalEcho"),
-        AvrConfigStep::WaitRadarCalCommitAck => write::text(out, at, b"WaitRadarCalCommitAck"),
-        AvrConfigStep::Done => write::text(out, at, b"Done"),
+        AvrConfigStep::WaitParamAck { param_idx } => index(out, end, param_idx),
+        AvrConfigStep::WaitParamCommitAck { param_idx } => index(out, end, param_idx),
+        _ => end,
     }
 }
 
 // The answer to a call before which this entry was awaited. A run that has begun answers as one that was fed.
 fn fed(out: &mut [u8; OUT], at: usize, before: usize, fed: AvrConfigFed) -> Answered {
     let outcome = fed.outcome;
-    let action = fed.action;
     let run = fed.seq;
     let step = run.step;
     let ticked = send::ticked(before, awaited(run));
-    let end = send::fed(out, at, outcome, ticked, action);
+    let end = send::fed(out, at, outcome, ticked, fed.action);
     Answered {
         run: run,
         at: name(out, end, step),
     }
 }
 
-fn begin(settings: Settings, values: &[u64; VALUES], out: &mut [u8; OUT], at: usize) -> Answered {
+pub fn begin(
+    settings: Settings,
+    values: &[u64; VALUES],
+    out: &mut [u8; OUT],
+    at: usize,
+) -> Answered {
     fed(
         out,
         at,
@@ -127,59 +136,24 @@ fn feed(
     fed(out, at, awaited(run), after)
 }
 
-// A call of a run that has begun: it has no other than `feed`.
-fn call(
-    done: Answered,
-    turn: Turn,
+// A call: the beginning, or a `feed`, since a run that has begun has no other. Behind the answer stands every stored field, if they
+// are asked for.
+pub fn call(
+    run: AvrConfigSequencer,
+    settings: Settings,
+    asked: Call,
+    with_state: bool,
     values: &[u64; VALUES],
     bytes: &[u8; BYTES],
     out: &mut [u8; OUT],
+    at: usize,
 ) -> Answered {
-    let run = done.run;
-    let at = turn.stream.out;
-    let asked = turn.call;
-    match asked {
+    let mut after = match asked {
         Call::Feed(envelope) => feed(run, envelope, values, bytes, out, at),
-        _ => Answered { run: run, at: at },
+        _ => begin(settings, values, out, at),
+    };
+    if with_state {
+        after.at = stored::state(out, after.at, after.run.settings);
     }
-}
-
-// Ends an answer, with every stored field if they are asked for.
-fn end(done: Answered, stream: Stream, out: &mut [u8; OUT]) -> Stream {
-    if stream.with_state {
-        let run = done.run;
-        let settings = run.settings;
-        let end = stored::state(out, done.at, settings);
-        return stream.answered(out, end);
-    }
-    stream.answered(out, done.at)
-}
-
-// A run from its beginning, whose number is written, to the beginning of the next sequence or the end of the list. The calls are
-// counted down, as reads are.
-pub fn run(
-    settings: Settings,
-    stream: Stream,
-    kinds: &Kinds,
-    input: &mut [u8; INPUT],
-    line: &mut [u8; LONGER],
-    values: &mut [u64; VALUES],
-    bytes: &mut [u8; BYTES],
-    out: &mut [u8; OUT],
-) -> Turn {
-    let mut done = begin(settings, values, out, stream.out);
-    let mut turn = Turn::without_call(stream);
-    let mut turns = u64::MAX;
-    loop {
-        let ended = end(done, turn.stream, out);
-        turn = next(ended, CALLS, kinds, input, line, values, bytes, out);
-        if turn.leaves() {
-            return turn;
-        }
-        done = call(done, turn, values, bytes, out);
-        if turns == 0 {
-            return turn;
-        }
-        turns -= 1;
-    }
+    after
 }

@@ -24,8 +24,11 @@ fn params(out: &mut [u8; OUT], at: usize, params: [ParamValue; MAX_PARAMS], len:
 
 fn radar_cal(out: &mut [u8; OUT], at: usize, cal: OptionRadarCal) -> usize {
     if cal.some {
-        let value = cal.value;
-        let values = fields::three(value.range_mm as u64, fields::byte(value.height_mm), 0);
+        let values = fields::three(
+            cal.value.range_mm as u64,
+            fields::byte(cal.value.height_mm),
+            0,
+        );
         return fields::numbers(out, at, b"radar_cal=range_mm:n height_mm:n ;", 0, &values);
     }
     fields::none(out, at, b"radar_cal")
@@ -34,9 +37,8 @@ fn radar_cal(out: &mut [u8; OUT], at: usize, cal: OptionRadarCal) -> usize {
 // Every stored field.
 pub fn state(out: &mut [u8; OUT], at: usize, s: AvrSettings) -> usize {
     let set = s.params;
-    let cal = s.radar_cal;
     let mut end = write::text(out, at, b"; state");
     end = fields::number(out, end, b"mode", fields::byte(s.mode));
     end = params(out, end, set, s.len);
-    radar_cal(out, end, cal)
+    radar_cal(out, end, s.radar_cal)
 }

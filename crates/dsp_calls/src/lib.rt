@@ -9,19 +9,13 @@ use reading::call::Call;
 use reading::call::Calls;
 use reading::call::Feed;
 use scanning::bytes::BYTES;
-use streams::INPUT;
-use streams::LONGER;
-use streams::Stream;
-use streams::next::Turn;
-use streams::next::next;
-use words::kinds::Kinds;
 use words::kinds::VALUES;
 use words::part;
 use writing::send;
 use writing::write;
 use writing::write::OUT;
 
-const CALLS: Calls = Calls {
+pub const CALLS: Calls = Calls {
     feed: true,
     check: true,
     result: true,
@@ -30,37 +24,35 @@ const CALLS: Calls = Calls {
 };
 
 // The start-up after a call, and the end of the answer.
-struct Answered {
-    dsp: DspSequencer,
-    at: usize,
+pub struct Answered {
+    pub dsp: DspSequencer,
+    pub at: usize,
 }
 
-fn number_of(step: DspStep) -> usize {
+// A step's name has so many bytes among the names, with the blanks behind it.
+const WIDTH: usize = 16;
+
+// Where a step's name begins.
+fn place_of(step: DspStep) -> usize {
     match step {
         DspStep::WaitStatus => 0,
-        DspStep::WaitDspQuery => 1,
-        DspStep::WaitDevInfo => 2,
-        DspStep::WaitProdInfo0 => 3,
-        DspStep::WaitProdInfo1 => 4,
-        DspStep::WaitProdInfo2 => 5,
-        DspStep::WaitConfig => 6,
-        DspStep::WaitPowerMode => 7,
-        DspStep::Done => 8,
+        DspStep::WaitDspQuery => 16,
+        DspStep::WaitDevInfo => 32,
+        DspStep::WaitProdInfo0 => 48,
+        DspStep::WaitProdInfo1 => 64,
+        DspStep::WaitProdInfo2 => 80,
+        DspStep::WaitConfig => 96,
+        DspStep::WaitPowerMode => 112,
+        DspStep::Done => 128,
     }
 }
 
 fn name(out: &mut [u8; OUT], at: usize, step: DspStep) -> usize {
-    match step {
-        DspStep::WaitStatus => write::text(out, at, b"WaitStatus"),
-        DspStep::WaitDspQuery => write::text(out, at, b"WaitDspQuery"),
-        DspStep::WaitDevInfo => write::text(out, at, b"WaitDevInfo"),
-        DspStep::WaitProdInfo0 => write::text(out, at, b"WaitProdInfo0"),
-        DspStep::WaitProdInfo1 => write::text(out, at, b"WaitProdInfo1"),
-        DspStep::WaitProdInfo2 => write::text(out, at, b"WaitProdInfo2"),
-        DspStep::WaitConfig => write::text(out, at, b"WaitConfig"),
-        DspStep::WaitPowerMode => write::text(out, at, b"WaitPowerMode"),
-        DspStep::Done => write::text(out, at, b"Done"),
-    }
+    let names =
+        b"WaitStatus      WaitDspQuery    WaitDevInfo     WaitProdInfo0   WaitProdInfo1   WaitProdInfo2   \
+        WaitConfig      WaitPowerMode   Done ";
+    let from = place_of(step);
+    write::choice(out, at, 0, part(names, from, names.len()), b' ')
 }
 
 fn step_of(dsp: DspSequencer) -> DspStep {
@@ -68,11 +60,10 @@ fn step_of(dsp: DspSequencer) -> DspStep {
     state.step
 }
 
-fn begin(out: &mut [u8; OUT], at: usize) -> Answered {
+pub fn begin(out: &mut [u8; OUT], at: usize) -> Answered {
     let started = DspSequencer::new();
-    let action = started.action;
     let dsp = started.seq;
-    let end = send::sent(out, at, action);
+    let end = send::sent(out, at, started.action);
     Answered {
         dsp: dsp,
         at: name(out, end, step_of(dsp)),
@@ -82,10 +73,9 @@ fn begin(out: &mut [u8; OUT], at: usize) -> Answered {
 // The answer to a call before which this step was awaited. Each step has one entry.
 fn fed(out: &mut [u8; OUT], at: usize, before: DspStep, fed: DspFed) -> Answered {
     let outcome = fed.outcome;
-    let action = fed.action;
     let dsp = fed.seq;
-    let ticked = send::ticked(number_of(before), number_of(step_of(dsp)));
-    let end = send::fed(out, at, outcome, ticked, action);
+    let ticked = send::ticked(place_of(before) / WIDTH, place_of(step_of(dsp)) / WIDTH);
+    let end = send::fed(out, at, outcome, ticked, fed.action);
     Answered {
         dsp: dsp,
         at: name(out, end, step_of(dsp)),
@@ -120,32 +110,31 @@ fn result(dsp: DspSequencer, out: &mut [u8; OUT], at: usize) -> usize {
     if let Outcome::Refused(_) = outcome {
         return end;
     }
-    let sync = finished.sync;
-    stored::sync(out, end, sync)
+    stored::sync(out, end, finished.sync)
 }
 
 fn take(dsp: DspSequencer, out: &mut [u8; OUT], at: usize) -> Answered {
     let taken = dsp.take_refused();
-    let refused = taken.refused;
     let next = taken.seq;
     Answered {
         dsp: next,
-        at: stored::taken(out, at, refused),
+        at: stored::taken(out, at, taken.refused),
     }
 }
 
-// A call of a start-up that has begun: `take`, where it is no other.
-fn call(
-    done: Answered,
-    turn: Turn,
+// A call: the beginning, or one of a start-up that has begun, `take` where it is no other. Behind the answer stands every stored
+// field, if they are asked for.
+pub fn call(
+    dsp: DspSequencer,
+    asked: Call,
+    with_state: bool,
     values: &[u64; VALUES],
     bytes: &[u8; BYTES],
     out: &mut [u8; OUT],
+    at: usize,
 ) -> Answered {
-    let dsp = done.dsp;
-    let at = turn.stream.out;
-    let asked = turn.call;
-    match asked {
+    let mut after = match asked {
+        Call::Begin(_) => begin(out, at),
         Call::Feed(envelope) => feed(dsp, envelope, values, bytes, out, at),
         Call::Check(now) => check(dsp, now, out, at),
         Call::Result => Answered {
@@ -153,46 +142,9 @@ fn call(
             at: result(dsp, out, at),
         },
         _ => take(dsp, out, at),
+    };
+    if with_state {
+        after.at = stored::state(out, after.at, after.dsp);
     }
-}
-
-// Ends an answer, with every stored field if they are asked for.
-fn end(done: Answered, stream: Stream, out: &mut [u8; OUT]) -> Stream {
-    if stream.with_state {
-        let dsp = done.dsp;
-        let state = dsp.state;
-        let replies = state.replies;
-        let deadline = state.deadline;
-        let end = stored::state(out, done.at, dsp.last, replies, deadline);
-        return stream.answered(out, end);
-    }
-    stream.answered(out, done.at)
-}
-
-// A start-up from its beginning, whose number is written, to the beginning of the next sequence or the end of the list. The calls
-// are counted down, as reads are.
-pub fn run(
-    stream: Stream,
-    kinds: &Kinds,
-    input: &mut [u8; INPUT],
-    line: &mut [u8; LONGER],
-    values: &mut [u64; VALUES],
-    bytes: &mut [u8; BYTES],
-    out: &mut [u8; OUT],
-) -> Turn {
-    let mut done = begin(out, stream.out);
-    let mut turn = Turn::without_call(stream);
-    let mut turns = u64::MAX;
-    loop {
-        let ended = end(done, turn.stream, out);
-        turn = next(ended, CALLS, kinds, input, line, values, bytes, out);
-        if turn.leaves() {
-            return turn;
-        }
-        done = call(done, turn, values, bytes, out);
-        if turns == 0 {
-            return turn;
-        }
-        turns -= 1;
-    }
+    after
 }

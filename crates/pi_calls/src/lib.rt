@@ -10,12 +10,6 @@ use reading::call::Call;
 use reading::call::Calls;
 use reading::call::Feed;
 use scanning::bytes::BYTES;
-use streams::INPUT;
-use streams::LONGER;
-use streams::Stream;
-use streams::next::Turn;
-use streams::next::next;
-use words::kinds::Kinds;
 use words::kinds::VALUES;
 use words::part;
 use writing::fields;
@@ -23,7 +17,7 @@ use writing::send;
 use writing::write;
 use writing::write::OUT;
 
-const CALLS: Calls = Calls {
+pub const CALLS: Calls = Calls {
     feed: true,
     check: false,
     result: true,
@@ -32,22 +26,26 @@ const CALLS: Calls = Calls {
 };
 
 // The start-up after a call, and the end of the answer.
-struct Answered {
-    pi: PiSequencer,
-    at: usize,
+pub struct Answered {
+    pub pi: PiSequencer,
+    pub at: usize,
 }
 
-fn number_of(step: PiStep) -> usize {
+// A step's name has so many bytes among the names, with the blanks behind it.
+const WIDTH: usize = 16;
+
+// Where a step's name begins.
+fn place_of(step: PiStep) -> usize {
     match step {
         PiStep::WaitStatus => 0,
-        PiStep::WaitDevInfo => 1,
-        PiStep::WaitParam0A => 2,
-        PiStep::WaitCamConfig1 => 3,
-        PiStep::WaitCamConfig2 => 4,
-        PiStep::WaitNetConfig => 5,
-        PiStep::WaitNetConfigPw => 6,
-        PiStep::WaitParams { idx: _ } => 7,
-        PiStep::Done => 8,
+        PiStep::WaitDevInfo => 16,
+        PiStep::WaitParam0A => 32,
+        PiStep::WaitCamConfig1 => 48,
+        PiStep::WaitCamConfig2 => 64,
+        PiStep::WaitNetConfig => 80,
+        PiStep::WaitNetConfigPw => 96,
+        PiStep::WaitParams { idx: _ } => 112,
+        PiStep::Done => 128,
     }
 }
 
@@ -56,33 +54,31 @@ fn entry_of(step: PiStep) -> usize {
     match step {
         PiStep::WaitParams { idx } => std::num::wrapping_add_usize(7, idx),
         PiStep::Done => 16,
-        _ => number_of(step),
+        _ => place_of(step) / WIDTH,
     }
+}
+
+fn word(out: &mut [u8; OUT], at: usize, step: PiStep) -> usize {
+    let names =
+        b"WaitStatus      WaitDevInfo     WaitParam0A     WaitCamConfig1  WaitCamConfig2  WaitNetConfig   \
+        WaitNetConfigPw WaitParams      Done ";
+    let from = place_of(step);
+    write::choice(out, at, 0, part(names, from, names.len()), b' ')
 }
 
 fn name(out: &mut [u8; OUT], at: usize, step: PiStep) -> usize {
+    let end = word(out, at, step);
     match step {
-        PiStep::WaitStatus => write::text(out, at, b"WaitStatus"),
-        PiStep::WaitDevInfo => write::text(out, at, b"WaitDevInfo"),
-        PiStep::WaitParam0A => write::text(out, at, b"WaitParam0A"),
-        PiStep::WaitCamConfig1 => write::text(out, at, b"WaitCamConfig1"),
-        PiStep::WaitCamConfig2 => write::text(out, at, b"WaitCamConfig2"),
-        PiStep::WaitNetConfig => write::text(out, at, b"WaitNetConfig"),
-        PiStep::WaitNetConfigPw => write::text(out, at, b"WaitNetConfigPw"),
-        PiStep::WaitParams { idx } => {
-            let end = write::text(out, at, b"WaitParams");
-            fields::number(out, end, b"idx", idx as u64)
-        }
-        PiStep::Done => write::text(out, at, b"Done"),
+        PiStep::WaitParams { idx } => fields::number(out, end, b"idx", idx as u64),
+        _ => end,
     }
 }
 
-fn begin(out: &mut [u8; OUT], at: usize) -> Answered {
+pub fn begin(out: &mut [u8; OUT], at: usize) -> Answered {
     let started = PiSequencer::new();
-    let action = started.action;
     let pi = started.seq;
     let step = pi.step;
-    let end = send::sent(out, at, action);
+    let end = send::sent(out, at, started.action);
     Answered {
         pi: pi,
         at: name(out, end, step),
@@ -92,11 +88,10 @@ fn begin(out: &mut [u8; OUT], at: usize) -> Answered {
 // The answer to a call before which this step was awaited.
 fn fed(out: &mut [u8; OUT], at: usize, before: PiStep, fed: PiFed) -> Answered {
     let outcome = fed.outcome;
-    let action = fed.action;
     let pi = fed.seq;
     let step = pi.step;
     let ticked = send::ticked(entry_of(before), entry_of(step));
-    let end = send::fed(out, at, outcome, ticked, action);
+    let end = send::fed(out, at, outcome, ticked, fed.action);
     Answered {
         pi: pi,
         at: name(out, end, step),
@@ -127,65 +122,30 @@ fn result(pi: PiSequencer, out: &mut [u8; OUT], at: usize) -> usize {
     if let Outcome::Refused(_) = outcome {
         return end;
     }
-    let sync = finished.sync;
-    stored::sync(out, end, sync)
+    stored::sync(out, end, finished.sync)
 }
 
-// A call of a start-up that has begun: `result`, where it is no other.
-fn call(
-    done: Answered,
-    turn: Turn,
+// A call: the beginning, or one of a start-up that has begun, `result` where it is no other. Behind the answer stands every stored
+// field, if they are asked for.
+pub fn call(
+    pi: PiSequencer,
+    asked: Call,
+    with_state: bool,
     values: &[u64; VALUES],
     bytes: &[u8; BYTES],
     out: &mut [u8; OUT],
+    at: usize,
 ) -> Answered {
-    let pi = done.pi;
-    let at = turn.stream.out;
-    let asked = turn.call;
-    match asked {
+    let mut after = match asked {
+        Call::Begin(_) => begin(out, at),
         Call::Feed(envelope) => feed(pi, envelope, values, bytes, out, at),
         _ => Answered {
             pi: pi,
             at: result(pi, out, at),
         },
+    };
+    if with_state {
+        after.at = stored::state(out, after.at, after.pi.replies);
     }
-}
-
-// Ends an answer, with every stored field if they are asked for.
-fn end(done: Answered, stream: Stream, out: &mut [u8; OUT]) -> Stream {
-    if stream.with_state {
-        let pi = done.pi;
-        let replies = pi.replies;
-        let end = stored::state(out, done.at, replies);
-        return stream.answered(out, end);
-    }
-    stream.answered(out, done.at)
-}
-
-// A start-up from its beginning, whose number is written, to the beginning of the next sequence or the end of the list. The calls
-// are counted down, as reads are.
-pub fn run(
-    stream: Stream,
-    kinds: &Kinds,
-    input: &mut [u8; INPUT],
-    line: &mut [u8; LONGER],
-    values: &mut [u64; VALUES],
-    bytes: &mut [u8; BYTES],
-    out: &mut [u8; OUT],
-) -> Turn {
-    let mut done = begin(out, stream.out);
-    let mut turn = Turn::without_call(stream);
-    let mut turns = u64::MAX;
-    loop {
-        let ended = end(done, turn.stream, out);
-        turn = next(ended, CALLS, kinds, input, line, values, bytes, out);
-        if turn.leaves() {
-            return turn;
-        }
-        done = call(done, turn, values, bytes, out);
-        if turns == 0 {
-            return turn;
-        }
-        turns -= 1;
-    }
+    after
 }
