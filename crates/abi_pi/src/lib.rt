@@ -1,8 +1,8 @@
 // A Pi start-up as a host holds it. A state with a number that no case has is told as not known.
 ghost use mathlib.Core.Path.{_≡_};
 ghost use Rattle.abi_pi.specs.State.{piStepIn, piStepOut, piIn, piOut};
-use pi_table::PiReplies;
 use pi::PiSequencer;
+use pi_table::PiReplies;
 use pi_table::PiStep;
 
 // `idx` belongs to step 7, and is 0 at any other.

@@ -1,8 +1,8 @@
 // Writes what a Pi start-up stores.
 use crate::camera;
+use pi::PiSync;
 use pi_table::OptionCamConfig;
 use pi_table::PiReplies;
-use pi::PiSync;
 use protocol::Stored;
 use writing::fields;
 use writing::records;
