@@ -7,6 +7,12 @@ use reading::call::Call;
 use reading::call::Calls;
 use reading::call::Feed;
 use scanning::bytes::BYTES;
+use streams::INPUT;
+use streams::LONGER;
+use streams::Stream;
+use streams::next::Turn;
+use streams::next::next;
+use words::kinds::Kinds;
 use words::kinds::VALUES;
 use words::part;
 use writing::fields;
@@ -14,7 +20,7 @@ use writing::send;
 use writing::write;
 use writing::write::OUT;
 
-pub const CALLS: Calls = Calls {
+const CALLS: Calls = Calls {
     feed: true,
     check: false,
     result: false,
@@ -23,9 +29,9 @@ pub const CALLS: Calls = Calls {
 };
 
 // The arm after a call, and the end of the answer.
-pub struct Answered {
-    pub arm: ArmSequencer,
-    pub at: usize,
+struct Answered {
+    arm: ArmSequencer,
+    at: usize,
 }
 
 // Where a step's name begins: each has 16 bytes, with the blanks behind it.
@@ -61,7 +67,7 @@ fn name(out: &mut [u8; OUT], at: usize, step: ArmStep) -> usize {
     }
 }
 
-pub fn begin(model: DeviceModel, out: &mut [u8; OUT], at: usize) -> Answered {
+fn begin(model: DeviceModel, out: &mut [u8; OUT], at: usize) -> Answered {
     let started = ArmSequencer::new_for(model);
     let arm = started.seq;
     let step = arm.step;
@@ -106,28 +112,60 @@ fn state(out: &mut [u8; OUT], at: usize, arm: ArmSequencer) -> usize {
     fields::flagged(out, end, b"wait_pi", arm.wait_pi)
 }
 
-// A call: the beginning, or one of an arm that has begun, `retries` where it is no `feed`. Behind the answer stands every stored field,
-// if they are asked for.
-pub fn call(
-    arm: ArmSequencer,
-    model: DeviceModel,
-    asked: Call,
-    with_state: bool,
+// A call after the beginning: `retries`, where it is no `feed`.
+fn call(
+    done: Answered,
+    turn: Turn,
     values: &[u64; VALUES],
     bytes: &[u8; BYTES],
     out: &mut [u8; OUT],
-    at: usize,
 ) -> Answered {
-    let mut after = match asked {
-        Call::Begin(_) => begin(model, out, at),
+    let arm = done.arm;
+    let at = turn.stream.out;
+    let asked = turn.call;
+    match asked {
         Call::Feed(envelope) => feed(arm, envelope, values, bytes, out, at),
         _ => Answered {
             arm: arm,
             at: write::decimal(out, at, arm.retries() as u64),
         },
-    };
-    if with_state {
-        after.at = state(out, after.at, after.arm);
     }
-    after
+}
+
+// Ends an answer, with every stored field if they are asked for.
+fn end(done: Answered, stream: Stream, out: &mut [u8; OUT]) -> Stream {
+    let mut at = done.at;
+    if stream.with_state {
+        at = state(out, at, done.arm);
+    }
+    stream.answered(out, at)
+}
+
+// An arm from its beginning, whose number is written, to the beginning of the next sequence or the end of the list. The calls are
+// counted down, as reads are.
+pub fn run(
+    model: DeviceModel,
+    stream: Stream,
+    kinds: &Kinds,
+    input: &mut [u8; INPUT],
+    line: &mut [u8; LONGER],
+    values: &mut [u64; VALUES],
+    bytes: &mut [u8; BYTES],
+    out: &mut [u8; OUT],
+) -> Turn {
+    let mut done = begin(model, out, stream.out);
+    let mut turn = Turn::without_call(stream);
+    let mut turns = u64::MAX;
+    loop {
+        let ended = end(done, turn.stream, out);
+        turn = next(ended, CALLS, kinds, input, line, values, bytes, out);
+        if turn.leaves() {
+            return turn;
+        }
+        done = call(done, turn, values, bytes, out);
+        if turns == 0 {
+            return turn;
+        }
+        turns -= 1;
+    }
 }

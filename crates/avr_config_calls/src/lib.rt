@@ -10,6 +10,12 @@ use reading::call::Calls;
 use reading::call::Feed;
 use reading::settings::Settings;
 use scanning::bytes::BYTES;
+use streams::INPUT;
+use streams::LONGER;
+use streams::Stream;
+use streams::next::Turn;
+use streams::next::next;
+use words::kinds::Kinds;
 use words::kinds::VALUES;
 use words::part;
 use writing::fields;
@@ -17,7 +23,7 @@ use writing::send;
 use writing::write;
 use writing::write::OUT;
 
-pub const CALLS: Calls = Calls {
+const CALLS: Calls = Calls {
     feed: true,
     check: false,
     result: false,
@@ -29,9 +35,9 @@ pub const CALLS: Calls = Calls {
 const FIRST: usize = 0;
 
 // The run after a call, and the end of the answer.
-pub struct Answered {
-    pub run: AvrConfigSequencer,
-    pub at: usize,
+struct Answered {
+    run: AvrConfigSequencer,
+    at: usize,
 }
 
 // Twice a number of parameters, which are few, and something more.
@@ -106,12 +112,7 @@ fn fed(out: &mut [u8; OUT], at: usize, before: usize, fed: AvrConfigFed) -> Answ
     }
 }
 
-pub fn begin(
-    settings: Settings,
-    values: &[u64; VALUES],
-    out: &mut [u8; OUT],
-    at: usize,
-) -> Answered {
+fn begin(settings: Settings, values: &[u64; VALUES], out: &mut [u8; OUT], at: usize) -> Answered {
     fed(
         out,
         at,
@@ -136,24 +137,57 @@ fn feed(
     fed(out, at, awaited(run), after)
 }
 
-// A call: the beginning, or a `feed`, since a run that has begun has no other. Behind the answer stands every stored field, if they
-// are asked for.
-pub fn call(
-    run: AvrConfigSequencer,
-    settings: Settings,
-    asked: Call,
-    with_state: bool,
+// A call of a run that has begun: it has no other than `feed`.
+fn call(
+    done: Answered,
+    turn: Turn,
     values: &[u64; VALUES],
     bytes: &[u8; BYTES],
     out: &mut [u8; OUT],
-    at: usize,
 ) -> Answered {
-    let mut after = match asked {
+    let run = done.run;
+    let at = turn.stream.out;
+    let asked = turn.call;
+    match asked {
         Call::Feed(envelope) => feed(run, envelope, values, bytes, out, at),
-        _ => begin(settings, values, out, at),
-    };
-    if with_state {
-        after.at = stored::state(out, after.at, after.run.settings);
+        _ => Answered { run: run, at: at },
     }
-    after
+}
+
+// Ends an answer, with every stored field if they are asked for.
+fn end(done: Answered, stream: Stream, out: &mut [u8; OUT]) -> Stream {
+    let mut at = done.at;
+    if stream.with_state {
+        at = stored::state(out, at, done.run.settings);
+    }
+    stream.answered(out, at)
+}
+
+// A run from its beginning, whose number is written, to the beginning of the next sequence or the end of the list. The calls are
+// counted down, as reads are.
+pub fn run(
+    settings: Settings,
+    stream: Stream,
+    kinds: &Kinds,
+    input: &mut [u8; INPUT],
+    line: &mut [u8; LONGER],
+    values: &mut [u64; VALUES],
+    bytes: &mut [u8; BYTES],
+    out: &mut [u8; OUT],
+) -> Turn {
+    let mut done = begin(settings, values, out, stream.out);
+    let mut turn = Turn::without_call(stream);
+    let mut turns = u64::MAX;
+    loop {
+        let ended = end(done, turn.stream, out);
+        turn = next(ended, CALLS, kinds, input, line, values, bytes, out);
+        if turn.leaves() {
+            return turn;
+        }
+        done = call(done, turn, values, bytes, out);
+        if turns == 0 {
+            return turn;
+        }
+        turns -= 1;
+    }
 }

@@ -6,13 +6,19 @@ use reading::call::Call;
 use reading::call::Calls;
 use reading::call::Feed;
 use scanning::bytes::BYTES;
+use streams::INPUT;
+use streams::LONGER;
+use streams::Stream;
+use streams::next::Turn;
+use streams::next::next;
+use words::kinds::Kinds;
 use words::kinds::VALUES;
 use words::part;
 use writing::send;
 use writing::write;
 use writing::write::OUT;
 
-pub const CALLS: Calls = Calls {
+const CALLS: Calls = Calls {
     feed: true,
     check: false,
     result: false,
@@ -21,9 +27,9 @@ pub const CALLS: Calls = Calls {
 };
 
 // The disarm after a call, and the end of the answer.
-pub struct Answered {
-    pub disarm: DisarmSequencer,
-    pub at: usize,
+struct Answered {
+    disarm: DisarmSequencer,
+    at: usize,
 }
 
 // A step's name has so many bytes among the names, with the blanks behind it.
@@ -45,7 +51,7 @@ fn name(out: &mut [u8; OUT], at: usize, step: DisarmStep) -> usize {
     write::choice(out, at, 0, part(names, from, names.len()), b' ')
 }
 
-pub fn begin(out: &mut [u8; OUT], at: usize) -> Answered {
+fn begin(out: &mut [u8; OUT], at: usize) -> Answered {
     let started = DisarmSequencer::new();
     let disarm = started.seq;
     let step = disarm.step;
@@ -86,23 +92,59 @@ fn feed(
     fed(out, at, before, after)
 }
 
-// A call: the beginning, or a `feed`, since a disarm has no other. Behind the answer stand the stored fields, if they are asked for:
-// there are none.
-pub fn call(
-    disarm: DisarmSequencer,
-    asked: Call,
-    with_state: bool,
+// A call after the beginning. It is a `feed`: a disarm has no other.
+fn call(
+    done: Answered,
+    turn: Turn,
     values: &[u64; VALUES],
     bytes: &[u8; BYTES],
     out: &mut [u8; OUT],
-    at: usize,
 ) -> Answered {
-    let mut after = match asked {
+    let disarm = done.disarm;
+    let at = turn.stream.out;
+    let asked = turn.call;
+    match asked {
         Call::Feed(envelope) => feed(disarm, envelope, values, bytes, out, at),
-        _ => begin(out, at),
-    };
-    if with_state {
-        after.at = write::text(out, after.at, b"; state");
+        _ => Answered {
+            disarm: disarm,
+            at: at,
+        },
     }
-    after
+}
+
+// Ends an answer. If the stored fields are asked for, there are none.
+fn end(done: Answered, stream: Stream, out: &mut [u8; OUT]) -> Stream {
+    let mut at = done.at;
+    if stream.with_state {
+        at = write::text(out, at, b"; state");
+    }
+    stream.answered(out, at)
+}
+
+// A disarm from its beginning, whose number is written, to the beginning of the next sequence or the end of the list. The calls are
+// counted down, as reads are.
+pub fn run(
+    stream: Stream,
+    kinds: &Kinds,
+    input: &mut [u8; INPUT],
+    line: &mut [u8; LONGER],
+    values: &mut [u64; VALUES],
+    bytes: &mut [u8; BYTES],
+    out: &mut [u8; OUT],
+) -> Turn {
+    let mut done = begin(out, stream.out);
+    let mut turn = Turn::without_call(stream);
+    let mut turns = u64::MAX;
+    loop {
+        let ended = end(done, turn.stream, out);
+        turn = next(ended, CALLS, kinds, input, line, values, bytes, out);
+        if turn.leaves() {
+            return turn;
+        }
+        done = call(done, turn, values, bytes, out);
+        if turns == 0 {
+            return turn;
+        }
+        turns -= 1;
+    }
 }

@@ -1,12 +1,8 @@
 // Lists of calls: reads one and writes what each call answers, as docs/REPLAY.md says. The programs `replay` and `trials` are a few
 // lines over it.
-use avr_config_calls::call as settings_call;
-use device::model::DeviceModel;
 use reading::call::Call;
-use reading::call::Calls;
 use reading::call::NO_CALLS;
 use reading::call::Sequence;
-use reading::settings::Settings;
 use scanning::bytes::BYTES;
 use streams::Ended;
 use streams::INPUT;
@@ -19,51 +15,10 @@ use words::kinds::Kinds;
 use words::kinds::VALUES;
 use writing::write::OUT;
 
-fn calls_of(sequence: Sequence) -> Calls {
-    match sequence {
-        Sequence::Dsp => dsp_calls::CALLS,
-        Sequence::Avr(_) => avr_calls::CALLS,
-        Sequence::Pi => pi_calls::CALLS,
-        Sequence::AvrConfig(_) => avr_config_calls::CALLS,
-        Sequence::Disarm => disarm_calls::CALLS,
-        Sequence::Arm(_) => arm_calls::CALLS,
-    }
-}
-
-// The sequence that a call belongs to: the one that it begins, or that runs.
-fn called(running: Sequence, turn: Turn) -> Sequence {
-    let call = turn.call;
-    match call {
-        Call::Begin(sequence) => sequence,
-        _ => running,
-    }
-}
-
-// The end of the answer, of the ends of all six.
-fn end_of(
-    running: Sequence,
-    dsp: usize,
-    avr: usize,
-    pi: usize,
-    run: usize,
-    disarm: usize,
-    arm: usize,
-) -> usize {
-    match running {
-        Sequence::Dsp => dsp,
-        Sequence::Avr(_) => avr,
-        Sequence::Pi => pi,
-        Sequence::AvrConfig(_) => run,
-        Sequence::Disarm => disarm,
-        Sequence::Arm(_) => arm,
-    }
-}
-
-// The turn after one whose answer ends at `end`.
-fn after(
-    turn: Turn,
-    running: Sequence,
-    end: usize,
+// Answers the calls of a sequence, up to the next that begins or the end of the list.
+fn run(
+    sequence: Sequence,
+    stream: Stream,
     kinds: &Kinds,
     input: &mut [u8; INPUT],
     line: &mut [u8; LONGER],
@@ -71,15 +26,25 @@ fn after(
     bytes: &mut [u8; BYTES],
     out: &mut [u8; OUT],
 ) -> Turn {
-    let calls = calls_of(running);
-    let stream = turn.stream.answered(out, end);
-    next(stream, calls, kinds, input, line, values, bytes, out)
+    match sequence {
+        Sequence::Dsp => dsp_calls::run(stream, kinds, input, line, values, bytes, out),
+        Sequence::Avr(model) => {
+            avr_calls::run(model, stream, kinds, input, line, values, bytes, out)
+        }
+        Sequence::Pi => pi_calls::run(stream, kinds, input, line, values, bytes, out),
+        Sequence::AvrConfig(settings) => {
+            avr_config_calls::run(settings, stream, kinds, input, line, values, bytes, out)
+        }
+        Sequence::Disarm => disarm_calls::run(stream, kinds, input, line, values, bytes, out),
+        Sequence::Arm(model) => {
+            arm_calls::run(model, stream, kinds, input, line, values, bytes, out)
+        }
+    }
 }
 
-// Answers a list. Each sequence has a place of its own, so that a call copies no state but its own. They have to hold something
-// before: what their beginnings write, the first answer is written over. The calls are counted down, as reads are.
+// Answers a list.
 fn answer(
-    start: Stream,
+    stream: Stream,
     kinds: &Kinds,
     input: &mut [u8; INPUT],
     line: &mut [u8; LONGER],
@@ -87,33 +52,24 @@ fn answer(
     bytes: &mut [u8; BYTES],
     out: &mut [u8; OUT],
 ) -> Stream {
-    let mut dsp = dsp_calls::begin(out, 0);
-    let mut avr = avr_calls::begin(DeviceModel::Mevo, out, 0);
-    let mut pi = pi_calls::begin(out, 0);
-    let mut run = avr_config_calls::begin(Settings::ModeOnly, values, out, 0);
-    let mut disarm = disarm_calls::begin(out, 0);
-    let mut arm = arm_calls::begin(DeviceModel::Mevo, out, 0);
-    let mut turn = next(start, NO_CALLS, kinds, input, line, values, bytes, out);
-    let mut running = Sequence::Dsp;
+    let mut turn = next(stream, NO_CALLS, kinds, input, line, values, bytes, out);
     let mut turns = u64::MAX;
-    while 0 < turns && !turn.ends() {
-        turns -= 1;
-        running = called(running, turn);
+    while 0 < turns {
         let call = turn.call;
-        let s = turn.stream.with_state;
-        let at = turn.stream.out;
-        let v = &*values;
-        let b = &*bytes;
-        match running {
-            Sequence::Dsp => dsp = dsp_calls::call(dsp.dsp, call, s, v, b, out, at),
-            Sequence::Avr(m) => avr = avr_calls::call(avr.avr, m, call, s, v, b, out, at),
-            Sequence::Pi => pi = pi_calls::call(pi.pi, call, s, v, b, out, at),
-            Sequence::AvrConfig(g) => run = settings_call(run.run, g, call, s, v, b, out, at),
-            Sequence::Disarm => disarm = disarm_calls::call(disarm.disarm, call, s, v, b, out, at),
-            Sequence::Arm(m) => arm = arm_calls::call(arm.arm, m, call, s, v, b, out, at),
-        }
-        let end = end_of(running, dsp.at, avr.at, pi.at, run.at, disarm.at, arm.at);
-        turn = after(turn, running, end, kinds, input, line, values, bytes, out);
+        let Call::Begin(sequence) = call else {
+            return turn.stream;
+        };
+        turn = run(
+            sequence,
+            turn.stream,
+            kinds,
+            input,
+            line,
+            values,
+            bytes,
+            out,
+        );
+        turns -= 1;
     }
     turn.stream
 }
