@@ -4,8 +4,6 @@
 ghost use mathlib.Core.Path.{_≡_};
 ghost use denote.Ref.{now as held};
 ghost use Rattle.protocol.specs.declared.Outcome.{Outcome};
-ghost use Rattle.protocol.specs.Action.{noAction};
-ghost use Rattle.sequence.specs.Rows.{judged};
 ghost use Rattle.device.specs.declared.model.DeviceModel.{DeviceModel};
 ghost use Rattle.protocol.specs.Carried.{noAvrStatus};
 ghost use Rattle.avr_table.specs.Stores.{noReplies};
@@ -159,43 +157,30 @@ fn result(outcome: Outcome, replies: AvrReplies) -> AvrFinished
     }
 }
 
-// Nothing is sent, and nothing changes.
-fn idle(state: AvrState) -> AvrMoved
-    ensures { λ r. ⌜ r ≡ record { action = noAction; state = state } ⌝ }
+fn accepted(moved: AvrMoved, now: u64) -> AvrFed
+    ensures { λ r. ⌜ r ≡ accepted moved now ⌝ }
 {
-    let action = Action::none();
-    AvrMoved {
+    let action = moved.action;
+    let state = moved.state;
+    AvrFed {
+        outcome: Outcome::Accepted,
         action: action,
-        state: state,
+        seq: AvrSequencer {
+            state: state,
+            last: now,
+        },
     }
 }
 
 impl AvrSequencer {
-    // What a call answers: what it has moved if it is accepted, else its refusal, and nothing has changed.
-    fn judged(self, outcome: Outcome, moved: AvrMoved, now: u64) -> AvrFed
-        ensures { λ r. ⌜ r ≡ judged outcome (accepted moved now) (refused self) ⌝ }
+    fn refuse(self, refusal: Refusal) -> AvrFed
+        ensures { λ r. ⌜ r ≡ refused self (Outcome.Refused refusal) ⌝ }
     {
-        match outcome {
-            Outcome::Accepted => {
-                let action = moved.action;
-                let state = moved.state;
-                return AvrFed {
-                    outcome: outcome,
-                    action: action,
-                    seq: AvrSequencer {
-                        state: state,
-                        last: now,
-                    },
-                };
-            }
-            Outcome::Refused(_) => {
-                let action = Action::none();
-                return AvrFed {
-                    outcome: outcome,
-                    action: action,
-                    seq: self,
-                };
-            }
+        let action = Action::none();
+        AvrFed {
+            outcome: Outcome::Refused(refusal),
+            action: action,
+            seq: self,
         }
     }
 
@@ -235,20 +220,41 @@ impl AvrSequencer {
         ensures { λ r. ⌜ r ≡ fedTo self (record { envelope = record { src = src; type-id = «type_id»; message = message; params = params; text = held (text .entry); payload = held (payload .entry) }; wall = wall }) now ⌝ }
     {
         let outcome = sequence::accept_feed(text, payload, self.last, now);
-        let state = self.state;
-        let moved = match src {
-            BusAddr::Avr => state.feed(type_id, message, params, text, payload, now, wall),
-            _ => idle(state),
-        };
-        self.judged(outcome, moved, now)
+        match outcome {
+            Outcome::Accepted => match src {
+                BusAddr::Avr => {
+                    let state = self.state;
+                    return accepted(
+                        state.feed(type_id, message, params, text, payload, now, wall),
+                        now,
+                    );
+                }
+                _ => {
+                    let mut seq = self;
+                    seq.last = now;
+                    let action = Action::none();
+                    return AvrFed {
+                        outcome: Outcome::Accepted,
+                        action: action,
+                        seq: seq,
+                    };
+                }
+            },
+            Outcome::Refused(refusal) => return self.refuse(refusal),
+        }
     }
 
     pub fn check_cal_timeout(self, now: u64) -> AvrFed
         ensures { λ r. ⌜ r ≡ polled self now ⌝ }
     {
         let outcome = sequence::accept_check(self.last, now);
-        let state = self.state;
-        self.judged(outcome, state.check(now), now)
+        match outcome {
+            Outcome::Accepted => {
+                let state = self.state;
+                return accepted(state.check(now), now);
+            }
+            Outcome::Refused(refusal) => return self.refuse(refusal),
+        }
     }
 
     // The result, once Done.

@@ -4,8 +4,6 @@
 ghost use mathlib.Core.Path.{_≡_};
 ghost use denote.Ref.{now as held};
 ghost use Rattle.protocol.specs.declared.Outcome.{Outcome};
-ghost use Rattle.protocol.specs.Action.{noAction};
-ghost use Rattle.sequence.specs.Rows.{judged};
 ghost use Rattle.dsp.specs.Answers.{begun, fedTo, polled, accepted, refused, syncOf, finished, taken};
 use device::model::DeviceModel;
 use dsp_steps::DspMoved;
@@ -91,43 +89,30 @@ fn result(outcome: Outcome, replies: DspReplies) -> DspFinished
     }
 }
 
-// Nothing is sent, and nothing changes.
-fn idle(state: DspState) -> DspMoved
-    ensures { λ r. ⌜ r ≡ record { action = noAction; state = state } ⌝ }
+fn accepted(moved: DspMoved, now: u64) -> DspFed
+    ensures { λ r. ⌜ r ≡ accepted moved now ⌝ }
 {
-    let action = Action::none();
-    DspMoved {
+    let action = moved.action;
+    let state = moved.state;
+    DspFed {
+        outcome: Outcome::Accepted,
         action: action,
-        state: state,
+        seq: DspSequencer {
+            state: state,
+            last: now,
+        },
     }
 }
 
 impl DspSequencer {
-    // What a call answers: what it has moved if it is accepted, else its refusal, and nothing has changed.
-    fn judged(self, outcome: Outcome, moved: DspMoved, now: u64) -> DspFed
-        ensures { λ r. ⌜ r ≡ judged outcome (accepted moved now) (refused self) ⌝ }
+    fn refuse(self, refusal: Refusal) -> DspFed
+        ensures { λ r. ⌜ r ≡ refused self (Outcome.Refused refusal) ⌝ }
     {
-        match outcome {
-            Outcome::Accepted => {
-                let action = moved.action;
-                let state = moved.state;
-                return DspFed {
-                    outcome: outcome,
-                    action: action,
-                    seq: DspSequencer {
-                        state: state,
-                        last: now,
-                    },
-                };
-            }
-            Outcome::Refused(_) => {
-                let action = Action::none();
-                return DspFed {
-                    outcome: outcome,
-                    action: action,
-                    seq: self,
-                };
-            }
+        let action = Action::none();
+        DspFed {
+            outcome: Outcome::Refused(refusal),
+            action: action,
+            seq: self,
         }
     }
 
@@ -159,20 +144,41 @@ impl DspSequencer {
         ensures { λ r. ⌜ r ≡ fedTo self (record { src = src; type-id = «type_id»; message = message; params = params; text = held (text .entry); payload = held (payload .entry) }) now ⌝ }
     {
         let outcome = sequence::accept_feed(text, payload, self.last, now);
-        let state = self.state;
-        let moved = match src {
-            BusAddr::Dsp => state.feed(type_id, message, params, text, payload, now),
-            _ => idle(state),
-        };
-        self.judged(outcome, moved, now)
+        match outcome {
+            Outcome::Accepted => match src {
+                BusAddr::Dsp => {
+                    let state = self.state;
+                    return accepted(
+                        state.feed(type_id, message, params, text, payload, now),
+                        now,
+                    );
+                }
+                _ => {
+                    let mut seq = self;
+                    seq.last = now;
+                    let action = Action::none();
+                    return DspFed {
+                        outcome: Outcome::Accepted,
+                        action: action,
+                        seq: seq,
+                    };
+                }
+            },
+            Outcome::Refused(refusal) => return self.refuse(refusal),
+        }
     }
 
     pub fn check_timeout(self, now: u64) -> DspFed
         ensures { λ r. ⌜ r ≡ polled self now ⌝ }
     {
         let outcome = sequence::accept_check(self.last, now);
-        let state = self.state;
-        self.judged(outcome, state.check(now), now)
+        match outcome {
+            Outcome::Accepted => {
+                let state = self.state;
+                return accepted(state.check(now), now);
+            }
+            Outcome::Refused(refusal) => return self.refuse(refusal),
+        }
     }
 
     // The result, once Done.
