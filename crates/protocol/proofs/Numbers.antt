@@ -31,11 +31,13 @@ pub data Listed (a : Applies) : List Applies → Type 0 where
 
 -- in a list that rises no number lies below the one that it rises from
 above : {n : ℕ} {l : List Applies} {a : Applies} → Rises n l → Listed a l → n ≤ a.number
+above {a = a} (end {n = n}) l = elim l [ ]
 above (then h r) here = le_of_lt h
 above (then h r) (there i) = le_trans (le_of_lt h) (above r i)
 
 -- what applies is not below the one given
 pub lowest_least : {n : ℕ} {l : List Applies} {a : Applies} → Rises n l → Listed a l → a.holds ≡ true → lowest l ≤ a.number
+lowest_least {a = a} (end {n = n}) i e = elim i [ ]
 lowest_least {a = a} (then h r) here e = rw e (le_refl a.number)
 lowest_least {a = a} (then {a = b} {l = l} h r) (there i) e = go (lowest_least r i e) b.holds refl
   where
@@ -44,7 +46,7 @@ lowest_least {a = a} (then {a = b} {l = l} h r) (there i) e = go (lowest_least r
     go ih false p = rw p ih
 
 -- where one applies, the number given is that of one that does
-pub lowest_applies : {l : List Applies} {a : Applies} → Listed a l → a.holds ≡ true → (b : Applies) × Listed b l × (b.holds ≡ true) × (lowest l ≡ b.number)
+pub lowest_applies : {a : Applies} {l : List Applies} → Listed a l → a.holds ≡ true → (b : Applies) × Listed b l × (b.holds ≡ true) × (lowest l ≡ b.number)
 lowest_applies {a = a} here e = (a, here, e, rw e)
 lowest_applies (there {b = b} {l = l} i) e = go (lowest_applies i e) b.holds refl
   where

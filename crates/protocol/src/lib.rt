@@ -1,4 +1,6 @@
 // The records of src/protocol and src/addr.rs that the sequences work with. Encoding and decoding are the host's.
+#![tactic(auto)]
+
 ghost use Rattle.std.specs.Prelude.{◌≡◌};
 ghost use Rattle.protocol.specs.Action.{no_action, send_to};
 
