@@ -10,7 +10,7 @@ use protocol::{Action, Command, ParamValue};
 // height, a sub query, a sub command, a session or a bus address; `acked_cmd` that of an acknowledgement; `wide` a range or an epoch;
 // `param` a `ParamValue`. What a command has not is 0.
 #[repr(C)]
-#[derive(Drop)]
+#[derive(Clone, Copy)]
 pub struct CCommand {
     pub number: u8,
     pub flag: bool,
@@ -21,7 +21,7 @@ pub struct CCommand {
 }
 
 #[repr(C)]
-#[derive(Drop)]
+#[derive(Clone, Copy)]
 pub struct CAction {
     pub some: bool,
     pub command: CCommand,

@@ -8,7 +8,7 @@ use settings::{AvrSettings, OptionRadarCal};
 
 // The format of each of the 32 places is looked at: a host leaves those past `len` 0.
 #[repr(C)]
-#[derive(Drop)]
+#[derive(Clone, Copy)]
 pub struct CSettings {
     pub mode: u8,
     pub params: [CParamValue; 32],
@@ -16,13 +16,13 @@ pub struct CSettings {
     pub radar_cal: OptionRadarCal,
 }
 
-#[derive(Drop)]
+#[derive(Clone, Copy)]
 pub struct SomeParams {
     pub known: bool,
     pub value: [ParamValue; 32],
 }
 
-#[derive(Drop)]
+#[derive(Clone, Copy)]
 pub struct SomeSettings {
     pub known: bool,
     pub value: AvrSettings,

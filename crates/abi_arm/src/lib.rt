@@ -1,4 +1,6 @@
 // An arm as a host holds it. A state with a number that no case has is told as not known.
+#![tactic(auto)]
+
 ghost use Rattle.std.specs.Prelude.{◌≡◌, false};
 ghost use Rattle.abi_arm.specs.State.{arm_step_in, arm_step_out, arm_in, arm_out};
 
@@ -7,7 +9,7 @@ use arm_steps::ArmStep;
 
 // `got_pi` and `got_armed` belong to step 3, and are false at any other.
 #[repr(C)]
-#[derive(Drop)]
+#[derive(Clone, Copy)]
 pub struct CArmStep {
     pub number: u8,
     pub got_pi: bool,
@@ -15,20 +17,20 @@ pub struct CArmStep {
 }
 
 #[repr(C)]
-#[derive(Drop)]
+#[derive(Clone, Copy)]
 pub struct CArm {
     pub step: CArmStep,
     pub retries: u16,
     pub wait_pi: bool,
 }
 
-#[derive(Drop)]
+#[derive(Clone, Copy)]
 pub struct SomeArmStep {
     pub known: bool,
     pub value: ArmStep,
 }
 
-#[derive(Drop)]
+#[derive(Clone, Copy)]
 pub struct SomeArm {
     pub known: bool,
     pub seq: ArmSequencer,

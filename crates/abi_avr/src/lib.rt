@@ -1,4 +1,6 @@
 // An AVR start-up as a host holds it. A state with a number that no case has is told as not known.
+#![tactic(auto)]
+
 ghost use Rattle.std.specs.Prelude.{◌≡◌};
 ghost use Rattle.abi_avr.specs.State.{avr_step_in, avr_step_out, avr_in, avr_out};
 
@@ -9,7 +11,7 @@ use avr_table::{AvrReplies, AvrStep};
 use sequence::OptionInstant;
 
 #[repr(C)]
-#[derive(Drop)]
+#[derive(Clone, Copy)]
 pub struct CAvr {
     pub step: u8,
     pub model: u8,
@@ -19,13 +21,13 @@ pub struct CAvr {
     pub last: u64,
 }
 
-#[derive(Drop)]
+#[derive(Clone, Copy)]
 pub struct SomeAvrStep {
     pub known: bool,
     pub value: AvrStep,
 }
 
-#[derive(Drop)]
+#[derive(Clone, Copy)]
 pub struct SomeAvr {
     pub known: bool,
     pub seq: AvrSequencer,

@@ -1,4 +1,6 @@
 // An AVR configuration as a host holds it. A state with a number that no case has is told as not known.
+#![tactic(auto)]
+
 ghost use Rattle.std.specs.Prelude.{◌≡◌};
 ghost use Rattle.abi_avr_config.specs.State.{avr_config_step_in, avr_config_step_out, avr_config_in, avr_config_out};
 
@@ -8,26 +10,26 @@ use avr_config_steps::AvrConfigStep;
 
 // `param_idx` belongs to steps 1 and 2, and is 0 at any other.
 #[repr(C)]
-#[derive(Drop)]
+#[derive(Clone, Copy)]
 pub struct CAvrConfigStep {
     pub number: u8,
     pub param_idx: usize,
 }
 
 #[repr(C)]
-#[derive(Drop)]
+#[derive(Clone, Copy)]
 pub struct CAvrConfig {
     pub step: CAvrConfigStep,
     pub settings: CSettings,
 }
 
-#[derive(Drop)]
+#[derive(Clone, Copy)]
 pub struct SomeAvrConfigStep {
     pub known: bool,
     pub value: AvrConfigStep,
 }
 
-#[derive(Drop)]
+#[derive(Clone, Copy)]
 pub struct SomeAvrConfig {
     pub known: bool,
     pub seq: AvrConfigSequencer,

@@ -1,22 +1,24 @@
 // A disarm as a host holds it. A state with a number that no case has is told as not known.
+#![tactic(auto)]
+
 ghost use Rattle.std.specs.Prelude.{◌≡◌};
 ghost use Rattle.abi_disarm.specs.State.{disarm_step_in, disarm_step_out, disarm_in, disarm_out};
 
 use disarm::{DisarmSequencer, DisarmStep};
 
 #[repr(C)]
-#[derive(Drop)]
+#[derive(Clone, Copy)]
 pub struct CDisarm {
     pub step: u8,
 }
 
-#[derive(Drop)]
+#[derive(Clone, Copy)]
 pub struct SomeDisarmStep {
     pub known: bool,
     pub value: DisarmStep,
 }
 
-#[derive(Drop)]
+#[derive(Clone, Copy)]
 pub struct SomeDisarm {
     pub known: bool,
     pub seq: DisarmSequencer,

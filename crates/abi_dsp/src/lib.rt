@@ -1,4 +1,6 @@
 // A DSP start-up as a host holds it. A state with a number that no case has is told as not known.
+#![tactic(auto)]
+
 ghost use Rattle.std.specs.Prelude.{◌≡◌};
 ghost use Rattle.abi_dsp.specs.State.{dsp_step_in, dsp_step_out, nack_in, nack_out, dsp_in, dsp_out};
 
@@ -11,7 +13,7 @@ use protocol::{ConfigAck, OptionConfigResp, OptionDevInfoResp, OptionNack, ProdI
 use sequence::OptionInstant;
 
 #[repr(C)]
-#[derive(Drop)]
+#[derive(Clone, Copy)]
 pub struct COptionNack {
     pub some: bool,
     pub src: u8,
@@ -20,7 +22,7 @@ pub struct COptionNack {
 }
 
 #[repr(C)]
-#[derive(Drop)]
+#[derive(Clone, Copy)]
 pub struct COptionDspStatus {
     pub some: bool,
     pub value: CDspStatus,
@@ -28,7 +30,7 @@ pub struct COptionDspStatus {
 }
 
 #[repr(C)]
-#[derive(Drop)]
+#[derive(Clone, Copy)]
 pub struct CDsp {
     pub step: u8,
     pub status: COptionDspStatus,
@@ -42,19 +44,19 @@ pub struct CDsp {
     pub last: u64,
 }
 
-#[derive(Drop)]
+#[derive(Clone, Copy)]
 pub struct SomeDspStep {
     pub known: bool,
     pub value: DspStep,
 }
 
-#[derive(Drop)]
+#[derive(Clone, Copy)]
 pub struct SomeNack {
     pub known: bool,
     pub value: OptionNack,
 }
 
-#[derive(Drop)]
+#[derive(Clone, Copy)]
 pub struct SomeDsp {
     pub known: bool,
     pub seq: DspSequencer,

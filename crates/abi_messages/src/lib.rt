@@ -1,4 +1,6 @@
 // Messages and envelopes, as a host hands them in.
+#![tactic(auto)]
+
 ghost use Rattle.std.specs.Prelude.{◌≡◌};
 ghost use Rattle.protocol.specs.Carried.{no_dsp_status80, no_dsp_status};
 ghost use Rattle.abi_messages.specs.Messages.{dsp_status_in, dsp_status_out, plain_in, record_in, ack_in, message_in, envelope_in};
@@ -14,7 +16,7 @@ const KINDS: u8 = 21;
 
 // `v80` counts where `layout` is 0, `v46` where it is 1.
 #[repr(C)]
-#[derive(Drop)]
+#[derive(Clone, Copy)]
 pub struct CDspStatus {
     pub layout: u8,
     pub v80: DspStatus80,
@@ -23,7 +25,7 @@ pub struct CDspStatus {
 
 // The record of its kind counts, and no other.
 #[repr(C)]
-#[derive(Drop)]
+#[derive(Clone, Copy)]
 pub struct CMessage {
     pub kind: u8,
     pub avr_status: AvrStatus,
@@ -39,7 +41,7 @@ pub struct CMessage {
 
 // `params` are the numbers of a `ConfigResp`. Text and payload stand beside.
 #[repr(C)]
-#[derive(Drop)]
+#[derive(Clone, Copy)]
 pub struct CEnvelope {
     pub src: u8,
     pub type_id: u8,
@@ -47,19 +49,19 @@ pub struct CEnvelope {
     pub params: [i16; 34],
 }
 
-#[derive(Drop)]
+#[derive(Clone, Copy)]
 pub struct SomeDspStatus {
     pub known: bool,
     pub value: DspStatus,
 }
 
-#[derive(Drop)]
+#[derive(Clone, Copy)]
 pub struct SomeMessage {
     pub known: bool,
     pub value: Message,
 }
 
-#[derive(Drop)]
+#[derive(Clone, Copy)]
 pub struct SomeEnvelope {
     pub known: bool,
     pub src: BusAddr,

@@ -1,4 +1,6 @@
 // A Pi start-up as a host holds it. A state with a number that no case has is told as not known.
+#![tactic(auto)]
+
 ghost use Rattle.std.specs.Prelude.{◌≡◌};
 ghost use Rattle.abi_pi.specs.State.{pi_step_in, pi_step_out, pi_in, pi_out};
 
@@ -7,26 +9,26 @@ use pi_table::{PiReplies, PiStep};
 
 // `idx` belongs to step 7, and is 0 at any other.
 #[repr(C)]
-#[derive(Drop)]
+#[derive(Clone, Copy)]
 pub struct CPiStep {
     pub number: u8,
     pub idx: usize,
 }
 
 #[repr(C)]
-#[derive(Drop)]
+#[derive(Clone, Copy)]
 pub struct CPi {
     pub step: CPiStep,
     pub replies: PiReplies,
 }
 
-#[derive(Drop)]
+#[derive(Clone, Copy)]
 pub struct SomePiStep {
     pub known: bool,
     pub value: PiStep,
 }
 
-#[derive(Drop)]
+#[derive(Clone, Copy)]
 pub struct SomePi {
     pub known: bool,
     pub seq: PiSequencer,

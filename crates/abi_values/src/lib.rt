@@ -1,6 +1,8 @@
 // What crosses to a host with a number where the sequences have an enum: a device by its byte on the bus, a refusal by its number, any
 // other case by its place in the enum of the Rust. A number that no case has is told as not known, and never taken for another. Here
 // devices, models, outcomes and parameters.
+#![tactic(auto)]
+
 ghost use Rattle.std.specs.Prelude.{◌≡◌, true};
 ghost use Rattle.abi_values.specs.Numbers.{addr_in, model_in, model_out, refusal_out};
 ghost use Rattle.abi_values.specs.Params.{known_param, param_in, param_out};
@@ -10,7 +12,7 @@ use protocol::{BusAddr, Outcome, ParamData, ParamValue};
 
 // `int24` counts where `format` is 0, `float40` where it is 1.
 #[repr(C)]
-#[derive(Drop)]
+#[derive(Clone, Copy)]
 pub struct CParamValue {
     pub param_id: u8,
     pub format: u8,
@@ -18,19 +20,19 @@ pub struct CParamValue {
     pub float40: f64,
 }
 
-#[derive(Drop)]
+#[derive(Clone, Copy)]
 pub struct SomeAddr {
     pub known: bool,
     pub value: BusAddr,
 }
 
-#[derive(Drop)]
+#[derive(Clone, Copy)]
 pub struct SomeModel {
     pub known: bool,
     pub value: DeviceModel,
 }
 
-#[derive(Drop)]
+#[derive(Clone, Copy)]
 pub struct SomeParamValue {
     pub known: bool,
     pub value: ParamValue,

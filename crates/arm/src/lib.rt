@@ -1,6 +1,8 @@
 // Arm (src/seq.rs, "Phase 6 — ArmSequencer") as a pollable state machine by value: `feed` takes a decoded envelope and answers with at
 // most one command to send. It has no clock. A nack leads back to the beginning, and is counted here; what each step does is crate
 // arm_steps'.
+#![tactic(auto)]
+
 ghost use Rattle.std.specs.Prelude.{◌≡◌, []};
 ghost use Rattle.protocol.specs.declared.Outcome.{Outcome};
 ghost use Rattle.device.specs.declared.model.DeviceModel.{DeviceModel};
@@ -14,7 +16,7 @@ use requests::status_poll;
 // The most nacks that are counted.
 const MAX_RETRIES: u16 = 65_535;
 
-#[derive(Drop)]
+#[derive(Clone, Copy)]
 pub struct ArmSequencer {
     pub step: ArmStep,
     // the nacks so far
@@ -23,7 +25,7 @@ pub struct ArmSequencer {
     pub wait_pi: bool,
 }
 
-#[derive(Drop)]
+#[derive(Clone, Copy)]
 pub struct ArmFed {
     pub outcome: Outcome,
     pub action: Action,

@@ -1,4 +1,6 @@
 // The calls of an arm, and what they answer.
+#![tactic(auto)]
+
 use arm::{ArmFed, ArmSequencer};
 use arm_steps::ArmStep;
 use device::model::DeviceModel;
@@ -20,7 +22,7 @@ const CALLS: Calls = Calls {
 };
 
 // The arm after a call, and the end of the answer.
-#[derive(Drop)]
+#[derive(Clone, Copy)]
 struct Answered {
     arm: ArmSequencer,
     at: usize,

@@ -1,5 +1,7 @@
 // What an arm does with an envelope, step by step (src/seq.rs, "Phase 6 — ArmSequencer"). Its calls, with their refusals and the count
 // of nacks, are crate arm's.
+#![tactic(auto)]
+
 ghost use Rattle.std.specs.Prelude.{◌≡◌, false, []};
 ghost use Rattle.protocol.specs.declared.BusAddr.{BusAddr};
 ghost use Rattle.requests.specs.Requests.{status_poll};
@@ -11,7 +13,7 @@ use device::search::contains;
 use protocol::{Action, BusAddr, Message};
 use requests::{avr_config_cmd, status_poll};
 
-#[derive(Drop)]
+#[derive(Clone, Copy)]
 pub enum ArmStep {
     WaitDspStatus,
     WaitAvrStatus,
@@ -21,7 +23,7 @@ pub enum ArmStep {
     Done,
 }
 
-#[derive(Drop)]
+#[derive(Clone, Copy)]
 pub struct ArmMoved {
     pub action: Action,
     pub step: ArmStep,

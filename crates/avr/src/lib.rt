@@ -1,6 +1,8 @@
 // AVR start-up (src/seq.rs, "Phase 2 — AvrSequencer") as a pollable state machine by value: `feed` takes a decoded envelope, a clock
 // reading and the wall seconds, `check_cal_timeout` a clock reading, and each answers with at most one command to send. What each step
 // does is crate avr_steps'.
+#![tactic(auto)]
+
 ghost use Rattle.std.specs.Prelude.{◌≡◌};
 ghost use Rattle.protocol.specs.declared.Outcome.{Outcome};
 ghost use Rattle.device.specs.declared.model.DeviceModel.{DeviceModel};
@@ -22,7 +24,7 @@ use protocol::{
 use requests::status_poll;
 use sequence::OptionInstant;
 
-#[derive(Drop)]
+#[derive(Clone, Copy)]
 pub struct AvrSequencer {
     pub state: AvrState,
     // the last accepted reading
@@ -30,7 +32,7 @@ pub struct AvrSequencer {
 }
 
 #[repr(C)]
-#[derive(Drop)]
+#[derive(Clone, Copy)]
 pub struct AvrSync {
     pub status: AvrStatus,
     pub dev_info: DevInfoResp,
@@ -41,14 +43,14 @@ pub struct AvrSync {
     pub avr_config: OptionAvrConfigResp,
 }
 
-#[derive(Drop)]
+#[derive(Clone, Copy)]
 pub struct AvrFed {
     pub outcome: Outcome,
     pub action: Action,
     pub seq: AvrSequencer,
 }
 
-#[derive(Drop)]
+#[derive(Clone, Copy)]
 pub struct AvrFinished {
     pub outcome: Outcome,
     pub sync: AvrSync,

@@ -1,4 +1,6 @@
 // The calls of an AVR start-up, and what they answer.
+#![tactic(auto)]
+
 mod stored;
 
 use avr::{AvrFed, AvrSequencer};
@@ -23,7 +25,7 @@ const CALLS: Calls = Calls {
 };
 
 // The start-up after a call, and the end of the answer.
-#[derive(Drop)]
+#[derive(Clone, Copy)]
 struct Answered {
     avr: AvrSequencer,
     at: usize,

@@ -1,5 +1,7 @@
 // AVR configuration (src/seq.rs, "Phase 4 — AvrConfigSequencer") as a pollable state machine by value: `feed` takes a decoded envelope
 // and answers with at most one command to send. It has no clock. What an accepted envelope does is crate avr_config_steps's.
+#![tactic(auto)]
+
 ghost use Rattle.std.specs.Prelude.{◌≡◌, []};
 ghost use Rattle.avr_config.specs.Answers.{begun, fed_to};
 
@@ -8,14 +10,14 @@ use protocol::{Action, BusAddr, Message, Outcome, Refusal};
 use requests::avr_config_cmd;
 use settings::{AvrSettings, MAX_PARAMS};
 
-#[derive(Drop)]
+#[derive(Clone, Copy)]
 pub struct AvrConfigSequencer {
     pub step: AvrConfigStep,
     pub settings: AvrSettings,
 }
 
 // `new` is refused where the settings have too many parameters.
-#[derive(Drop)]
+#[derive(Clone, Copy)]
 pub struct AvrConfigFed {
     pub outcome: Outcome,
     pub action: Action,

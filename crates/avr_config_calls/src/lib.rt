@@ -1,4 +1,6 @@
 // The calls of a settings run, and what they answer.
+#![tactic(auto)]
+
 mod given;
 mod stored;
 
@@ -26,7 +28,7 @@ const CALLS: Calls = Calls {
 const FIRST: usize = 0;
 
 // The run after a call, and the end of the answer.
-#[derive(Drop)]
+#[derive(Clone, Copy)]
 struct Answered {
     run: AvrConfigSequencer,
     at: usize,

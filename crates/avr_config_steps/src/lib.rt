@@ -1,5 +1,7 @@
 // What a settings run does with an accepted envelope, step by step (src/seq.rs, "Phase 4 — AvrConfigSequencer"). Its calls, with their
 // refusals, are crate avr_config's. The settings never change, so no answer here holds them.
+#![tactic(auto)]
+
 ghost use Rattle.std.specs.Prelude.{◌≡◌, [], ◌+◌, min};
 ghost use Rattle.protocol.specs.declared.BusAddr.{BusAddr};
 ghost use Rattle.sequence.specs.Events.{fed, plain};
@@ -11,7 +13,7 @@ use protocol::{Action, BusAddr, Command, Message, ModeSet};
 use requests::avr_config_cmd;
 use settings::{AvrSettings, MAX_PARAMS};
 
-#[derive(Drop)]
+#[derive(Clone, Copy)]
 pub enum AvrConfigStep {
     WaitInitGateAck,
     WaitParamAck { param_idx: usize },
@@ -23,7 +25,7 @@ pub enum AvrConfigStep {
     Done,
 }
 
-#[derive(Drop)]
+#[derive(Clone, Copy)]
 pub struct AvrConfigMoved {
     pub action: Action,
     pub step: AvrConfigStep,

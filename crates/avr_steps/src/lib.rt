@@ -1,5 +1,7 @@
 // What an AVR start-up does with an accepted envelope or check, step by step (src/seq.rs, "Phase 2 — AvrSequencer"). Its calls, with
 // their refusals and the result, are crate avr's.
+#![tactic(auto)]
+
 ghost use Rattle.std.specs.Prelude.{◌≡◌, cond, []};
 ghost use Rattle.protocol.specs.Action.{no_action, send_to};
 ghost use Rattle.protocol.specs.declared.BusAddr.{BusAddr};
@@ -33,7 +35,7 @@ const STATUS_REPOLL_INTERVAL: u64 = 1_000_000_000;
 const STATUS: u8 = 0x2A;
 
 // Where a start-up stands.
-#[derive(Drop)]
+#[derive(Clone, Copy)]
 pub struct AvrState {
     pub step: AvrStep,
     pub model: DeviceModel,
@@ -44,7 +46,7 @@ pub struct AvrState {
     pub repoll_at: OptionInstant,
 }
 
-#[derive(Drop)]
+#[derive(Clone, Copy)]
 pub struct AvrMoved {
     pub action: Action,
     pub state: AvrState,

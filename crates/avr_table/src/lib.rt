@@ -1,5 +1,7 @@
 // The steps of an AVR start-up (src/seq.rs, "Phase 2 — AvrSequencer"), what it asks when each begins, and the replies that it stores. Its table stands in
 // specs/Table.antt.
+#![tactic(auto)]
+
 ghost use Rattle.std.specs.Prelude.{◌≡◌};
 ghost use Rattle.protocol.specs.Action.{send_to};
 ghost use Rattle.protocol.specs.declared.BusAddr.{BusAddr};
@@ -11,7 +13,7 @@ use protocol::{
 };
 use requests::{cal_data_req, param_read_req, status_poll, time_sync};
 
-#[derive(Drop)]
+#[derive(Clone, Copy)]
 pub enum AvrStep {
     WaitStatus1,
     WaitStatus2,
@@ -31,28 +33,28 @@ pub enum AvrStep {
 }
 
 #[repr(C)]
-#[derive(Drop)]
+#[derive(Clone, Copy)]
 pub struct OptionAvrStatus {
     pub some: bool,
     pub value: AvrStatus,
 }
 
 #[repr(C)]
-#[derive(Drop)]
+#[derive(Clone, Copy)]
 pub struct OptionCalDataResp {
     pub some: bool,
     pub value: CalDataResp,
 }
 
 #[repr(C)]
-#[derive(Drop)]
+#[derive(Clone, Copy)]
 pub struct OptionCalParamResp {
     pub some: bool,
     pub value: CalParamResp,
 }
 
 #[repr(C)]
-#[derive(Drop)]
+#[derive(Clone, Copy)]
 pub struct OptionAvrConfigResp {
     pub some: bool,
     pub value: AvrConfigResp,
@@ -60,7 +62,7 @@ pub struct OptionAvrConfigResp {
 
 // The stored replies.
 #[repr(C)]
-#[derive(Drop)]
+#[derive(Clone, Copy)]
 pub struct AvrReplies {
     pub status: OptionAvrStatus,
     pub dev_info: OptionDevInfoResp,

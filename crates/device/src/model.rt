@@ -6,7 +6,7 @@ ghost use Rattle.device.specs.Model.{model_of, model_in, has_camera, has_factory
 use crate::search;
 use protocol::{OptionDevInfoResp, Stored};
 
-#[derive(Drop)]
+#[derive(Clone, Copy)]
 pub enum DeviceModel {
     // Mevo+ or Mevo Gen2: radar and camera
     Mevo,

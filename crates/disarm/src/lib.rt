@@ -1,5 +1,7 @@
 // Disarm before a mode change (src/seq.rs, "Phase 5.5 — DisarmSequencer") as a pollable state machine by value: `feed` takes a decoded
 // envelope. Only `new` sends. It has no clock.
+#![tactic(auto)]
+
 ghost use Rattle.std.specs.Prelude.{◌≡◌, []};
 ghost use Rattle.protocol.specs.declared.BusAddr.{BusAddr};
 ghost use Rattle.protocol.specs.declared.Outcome.{Outcome};
@@ -12,7 +14,7 @@ ghost use Rattle.disarm.specs.Answers.{begun, refused, advance, fed_to, arm_at};
 use protocol::{Action, BusAddr, Message, Outcome, Refusal};
 use requests::avr_config_cmd;
 
-#[derive(Drop)]
+#[derive(Clone, Copy)]
 pub enum DisarmStep {
     WaitAck,
     WaitModeReset,
@@ -20,12 +22,12 @@ pub enum DisarmStep {
     Done,
 }
 
-#[derive(Drop)]
+#[derive(Clone, Copy)]
 pub struct DisarmSequencer {
     pub step: DisarmStep,
 }
 
-#[derive(Drop)]
+#[derive(Clone, Copy)]
 pub struct DisarmFed {
     pub outcome: Outcome,
     pub action: Action,
@@ -33,7 +35,7 @@ pub struct DisarmFed {
 }
 
 // What a call through a reference answers: as `DisarmFed`, but for the state.
-#[derive(Drop)]
+#[derive(Clone, Copy)]
 pub struct DisarmAnswer {
     pub outcome: Outcome,
     pub action: Action,

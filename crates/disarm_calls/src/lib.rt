@@ -1,4 +1,6 @@
 // The calls of a disarm, and what they answer.
+#![tactic(auto)]
+
 use disarm::{DisarmFed, DisarmSequencer, DisarmStep};
 use reading::call::{Call, Calls, Feed};
 use scanning::bytes::BYTES;
@@ -18,7 +20,7 @@ const CALLS: Calls = Calls {
 };
 
 // The disarm after a call, and the end of the answer.
-#[derive(Drop)]
+#[derive(Clone, Copy)]
 struct Answered {
     disarm: DisarmSequencer,
     at: usize,

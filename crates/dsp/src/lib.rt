@@ -1,6 +1,8 @@
 // DSP start-up (src/seq.rs, "Phase 1 — DspSequencer") as a pollable state machine by value: `feed` takes a decoded envelope and a
 // clock reading, `check_timeout` a clock reading, and each answers with at most one command to send. What each step does is crate
 // dsp_steps'.
+#![tactic(auto)]
+
 ghost use Rattle.std.specs.Prelude.{◌≡◌};
 ghost use Rattle.protocol.specs.declared.Outcome.{Outcome};
 ghost use Rattle.dsp.specs.Answers.{begun, fed_to, polled, accepted, refused, sync_of, finished, taken};
@@ -14,14 +16,14 @@ use protocol::{
 };
 use requests::status_poll;
 
-#[derive(Drop)]
+#[derive(Clone, Copy)]
 pub struct DspSequencer {
     pub state: DspState,
     // the last accepted reading
     pub last: u64,
 }
 
-#[derive(Drop)]
+#[derive(Clone, Copy)]
 pub struct DspSync {
     pub status: DspStatus,
     // of a V46 status
@@ -36,20 +38,20 @@ pub struct DspSync {
     pub power_mode_unanswered: bool,
 }
 
-#[derive(Drop)]
+#[derive(Clone, Copy)]
 pub struct DspFed {
     pub outcome: Outcome,
     pub action: Action,
     pub seq: DspSequencer,
 }
 
-#[derive(Drop)]
+#[derive(Clone, Copy)]
 pub struct DspFinished {
     pub outcome: Outcome,
     pub sync: DspSync,
 }
 
-#[derive(Drop)]
+#[derive(Clone, Copy)]
 pub struct DspTaken {
     pub refused: OptionNack,
     pub seq: DspSequencer,

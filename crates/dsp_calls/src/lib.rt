@@ -1,4 +1,6 @@
 // The calls of a DSP start-up, and what they answer.
+#![tactic(auto)]
+
 mod stored;
 
 use dsp::{DspFed, DspSequencer};
@@ -22,7 +24,7 @@ const CALLS: Calls = Calls {
 };
 
 // The start-up after a call, and the end of the answer.
-#[derive(Drop)]
+#[derive(Clone, Copy)]
 struct Answered {
     dsp: DspSequencer,
     at: usize,

@@ -1,5 +1,7 @@
 // What a DSP start-up does with an accepted envelope or check, step by step (src/seq.rs, "Phase 1 — DspSequencer"). Its calls, with
 // their refusals and the result, are crate dsp's.
+#![tactic(auto)]
+
 ghost use Rattle.std.specs.Prelude.{◌≡◌, [], ◌<◌};
 ghost use Rattle.protocol.specs.Carried.{no_dsp_status};
 ghost use Rattle.device.specs.Model.{model_in};
@@ -27,7 +29,7 @@ const DSP_QUERY: u8 = 0x48;
 const PARAM_VALUE: u8 = 0x3F;
 
 // Where a start-up stands.
-#[derive(Drop)]
+#[derive(Clone, Copy)]
 pub struct DspState {
     pub step: DspStep,
     pub replies: DspReplies,
@@ -35,7 +37,7 @@ pub struct DspState {
     pub deadline: OptionInstant,
 }
 
-#[derive(Drop)]
+#[derive(Clone, Copy)]
 pub struct DspMoved {
     pub action: Action,
     pub state: DspState,

@@ -1,5 +1,7 @@
 // The steps of a DSP start-up (src/seq.rs, "Phase 1 — DspSequencer"), what it asks when each begins, and the replies that it stores. Its table stands in
 // specs/Table.antt.
+#![tactic(auto)]
+
 ghost use Rattle.std.specs.Prelude.{◌≡◌};
 ghost use Rattle.dsp_table.specs.Table.{request};
 
@@ -13,7 +15,7 @@ const XI_DSP_POWER_MODE_ID: u8 = 0x01;
 
 const XI_DSP_POWER_MODE_NORMAL: i32 = 1;
 
-#[derive(Drop)]
+#[derive(Clone, Copy)]
 pub enum DspStep {
     WaitStatus,
     WaitDspQuery,
@@ -28,7 +30,7 @@ pub enum DspStep {
 }
 
 // A status; `payload` is that of a V46.
-#[derive(Drop)]
+#[derive(Clone, Copy)]
 pub struct OptionDspStatus {
     pub some: bool,
     pub value: DspStatus,
@@ -36,14 +38,14 @@ pub struct OptionDspStatus {
 }
 
 #[repr(C)]
-#[derive(Drop)]
+#[derive(Clone, Copy)]
 pub struct OptionDspQueryResp {
     pub some: bool,
     pub value: DspQueryResp,
 }
 
 // The stored replies. Product infos that haven't come are empty.
-#[derive(Drop)]
+#[derive(Clone, Copy)]
 pub struct DspReplies {
     pub status: OptionDspStatus,
     pub hw_info: OptionDspQueryResp,

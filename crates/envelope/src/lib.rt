@@ -1,5 +1,7 @@
 // A decoded envelope that refers to the lent bytes (src/frame.rs's Envelope without `raw`), and each sequence's feed with one. A function here
 // takes it apart and calls the sequence's own feed. The borrow checker covers none of them: each is proved by a walk.
+#![tactic(auto)]
+
 ghost use Rattle.std.specs.Prelude.{◌≡◌};
 ghost use Rattle.disarm.specs.Answers as disarms;
 ghost use Rattle.arm.specs.Answers as arms;
@@ -17,7 +19,7 @@ use dsp::{DspFed, DspSequencer};
 use pi::{PiFed, PiSequencer};
 use protocol::{BusAddr, Message};
 
-#[derive(Drop)]
+#[derive(Clone, Copy)]
 pub struct Envelope<'a> {
     pub src: BusAddr,
     pub type_id: u8,

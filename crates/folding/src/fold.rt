@@ -65,7 +65,7 @@ fn shown(out: &mut [u8; OUT], at: usize, s: &[u8]) -> usize {
 }
 
 // What goes into one line: the bytes before `end`. The next line begins at `next`.
-#[derive(Drop)]
+#[derive(Clone, Copy)]
 struct Piece {
     end: usize,
     next: usize,

@@ -2,7 +2,7 @@
 // either; it has a byte for each two digits before it.
 use words::{byte_at, part};
 
-#[derive(Drop)]
+#[derive(Clone, Copy)]
 pub struct Span {
     pub from: usize,
     pub to: usize,

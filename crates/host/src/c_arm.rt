@@ -13,7 +13,7 @@ use arm::{ArmFed, ArmSequencer};
 use protocol::Action;
 
 #[repr(C)]
-#[derive(Drop)]
+#[derive(Clone, Copy)]
 pub struct CArmFed {
     pub refusal: u8,
     pub action: CAction,
@@ -21,7 +21,7 @@ pub struct CArmFed {
 }
 
 #[repr(C)]
-#[derive(Drop)]
+#[derive(Clone, Copy)]
 pub struct CRetries {
     pub refusal: u8,
     pub retries: u16,

@@ -13,7 +13,7 @@ use avr::{AvrFed, AvrSequencer, AvrSync};
 use protocol::Action;
 
 #[repr(C)]
-#[derive(Drop)]
+#[derive(Clone, Copy)]
 pub struct CAvrFed {
     pub refusal: u8,
     pub action: CAction,
@@ -21,7 +21,7 @@ pub struct CAvrFed {
 }
 
 #[repr(C)]
-#[derive(Drop)]
+#[derive(Clone, Copy)]
 pub struct CAvrFinished {
     pub refusal: u8,
     pub sync: AvrSync,

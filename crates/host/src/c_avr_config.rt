@@ -15,7 +15,7 @@ use protocol::{Action, RadarCal};
 use settings::{AvrSettings, MAX_PARAMS, MevoSettings};
 
 #[repr(C)]
-#[derive(Drop)]
+#[derive(Clone, Copy)]
 pub struct CAvrConfigFed {
     pub refusal: u8,
     pub action: CAction,

@@ -12,7 +12,7 @@ use disarm::{DisarmFed, DisarmSequencer};
 use protocol::Action;
 
 #[repr(C)]
-#[derive(Drop)]
+#[derive(Clone, Copy)]
 pub struct CDisarmFed {
     pub refusal: u8,
     pub action: CAction,

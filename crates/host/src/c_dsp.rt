@@ -13,7 +13,7 @@ use dsp_table::OptionDspQueryResp;
 use protocol::{Action, ConfigResp, DevInfoResp, OptionNack, ProdInfoResp, Stored};
 
 #[repr(C)]
-#[derive(Drop)]
+#[derive(Clone, Copy)]
 pub struct CDspFed {
     pub refusal: u8,
     pub action: CAction,
@@ -21,7 +21,7 @@ pub struct CDspFed {
 }
 
 #[repr(C)]
-#[derive(Drop)]
+#[derive(Clone, Copy)]
 pub struct CDspSync {
     pub status: CDspStatus,
     pub status_payload: Stored,
@@ -34,14 +34,14 @@ pub struct CDspSync {
 }
 
 #[repr(C)]
-#[derive(Drop)]
+#[derive(Clone, Copy)]
 pub struct CDspFinished {
     pub refusal: u8,
     pub sync: CDspSync,
 }
 
 #[repr(C)]
-#[derive(Drop)]
+#[derive(Clone, Copy)]
 pub struct CDspTaken {
     pub refusal: u8,
     pub refused: COptionNack,

@@ -12,7 +12,7 @@ use pi::{PiFed, PiSequencer, PiSync};
 use protocol::Action;
 
 #[repr(C)]
-#[derive(Drop)]
+#[derive(Clone, Copy)]
 pub struct CPiFed {
     pub refusal: u8,
     pub action: CAction,
@@ -20,7 +20,7 @@ pub struct CPiFed {
 }
 
 #[repr(C)]
-#[derive(Drop)]
+#[derive(Clone, Copy)]
 pub struct CPiFinished {
     pub refusal: u8,
     pub sync: PiSync,

@@ -12,14 +12,14 @@ use device::sends;
 use protocol::Action;
 
 #[repr(C)]
-#[derive(Drop)]
+#[derive(Clone, Copy)]
 pub struct CSent {
     pub refusal: u8,
     pub action: CAction,
 }
 
 #[repr(C)]
-#[derive(Drop)]
+#[derive(Clone, Copy)]
 pub struct CKeepalive {
     pub refusal: u8,
     pub actions: [CAction; 3],

@@ -1,5 +1,7 @@
 // Lists of calls: reads one and writes what each call answers, as docs/REPLAY.md says. The programs `replay` and `trials` are a few
 // lines over it.
+#![tactic(auto)]
+
 use reading::call::{Call, NO_CALLS, Sequence};
 use scanning::bytes::BYTES;
 use streams::next::{Turn, next};

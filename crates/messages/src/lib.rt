@@ -1,5 +1,7 @@
 // The message of a kind, or the parts of a settings run, made of the values of their fields: a negative number by its two's complement,
 // a bool as 0 or 1, a float by its bits.
+#![tactic(auto)]
+
 use protocol::{
     AvrStatus, CamConfig, ConfigAck, DspQueryResp, DspStatus, DspStatus46, DspStatus80, Message,
     ModeSet, ParamData, ParamValue, RadarCal, TimeSync,

@@ -1,4 +1,6 @@
 // The network text of a Pi: its first zero byte parts the name of the network from its password.
+#![tactic(auto)]
+
 ghost use Rattle.std.specs.Prelude.{◌≡◌, ◌+◌, take, drop};
 ghost use Rattle.protocol.specs.Stored.{stored};
 ghost use Rattle.net_config.specs.Zero.{first_zero};

@@ -1,5 +1,7 @@
 // Pi start-up (src/seq.rs, "Phase 3 — PiSequencer") as a pollable state machine by value: `feed` takes a decoded envelope and answers
 // with at most one command to send. It has no clock.
+#![tactic(auto)]
+
 ghost use Rattle.std.specs.Prelude.{◌≡◌, []};
 ghost use Rattle.protocol.specs.declared.BusAddr.{BusAddr};
 ghost use Rattle.protocol.specs.declared.Outcome.{Outcome};
@@ -15,14 +17,14 @@ use protocol::{
     Action, BusAddr, CamConfig, DevInfoResp, Message, OptionDevInfoResp, Outcome, Refusal, Stored,
 };
 
-#[derive(Drop)]
+#[derive(Clone, Copy)]
 pub struct PiSequencer {
     pub step: PiStep,
     pub replies: PiReplies,
 }
 
 #[repr(C)]
-#[derive(Drop)]
+#[derive(Clone, Copy)]
 pub struct PiSync {
     pub dev_info: DevInfoResp,
     pub cam_config: CamConfig,
@@ -30,14 +32,14 @@ pub struct PiSync {
     pub password: Stored,
 }
 
-#[derive(Drop)]
+#[derive(Clone, Copy)]
 pub struct PiFed {
     pub outcome: Outcome,
     pub action: Action,
     pub seq: PiSequencer,
 }
 
-#[derive(Drop)]
+#[derive(Clone, Copy)]
 pub struct PiFinished {
     pub outcome: Outcome,
     pub sync: PiSync,

@@ -1,4 +1,6 @@
 // The calls of a Pi start-up, and what they answer.
+#![tactic(auto)]
+
 mod camera;
 mod stored;
 
@@ -23,7 +25,7 @@ const CALLS: Calls = Calls {
 };
 
 // The start-up after a call, and the end of the answer.
-#[derive(Drop)]
+#[derive(Clone, Copy)]
 struct Answered {
     pi: PiSequencer,
     at: usize,

@@ -1,5 +1,7 @@
 // The steps of a Pi start-up (src/seq.rs, "Phase 3 — PiSequencer"), what it asks when each begins, and the replies that it stores. Its table stands in
 // specs/Table.antt.
+#![tactic(auto)]
+
 ghost use Rattle.std.specs.Prelude.{◌≡◌};
 ghost use Rattle.pi_table.specs.Table.{request};
 
@@ -9,7 +11,7 @@ use requests::{net_config_req, param_read_req, status_poll};
 // The parameters that are read last, in this order.
 const IDS: [u8; 9] = [0x01, 0x07, 0x08, 0x09, 0x06, 0x0B, 0x03, 0x04, 0x05];
 
-#[derive(Drop)]
+#[derive(Clone, Copy)]
 pub enum PiStep {
     WaitStatus,
     WaitDevInfo,
@@ -24,14 +26,14 @@ pub enum PiStep {
 }
 
 #[repr(C)]
-#[derive(Drop)]
+#[derive(Clone, Copy)]
 pub struct OptionCamConfig {
     pub some: bool,
     pub value: CamConfig,
 }
 
 #[repr(C)]
-#[derive(Drop)]
+#[derive(Clone, Copy)]
 pub struct PiReplies {
     pub dev_info: OptionDevInfoResp,
     pub cam_config: OptionCamConfig,

@@ -12,7 +12,7 @@ mod store;
 
 // ---- bus addresses of the unit's internal network (src/addr.rs)
 
-#[derive(Drop)]
+#[derive(Clone, Copy)]
 pub enum BusAddr {
     // the client application
     App,
@@ -28,7 +28,7 @@ pub enum BusAddr {
 
 // The first `len` of `bytes`; the bytes after them are 0.
 #[repr(C)]
-#[derive(Drop)]
+#[derive(Clone, Copy)]
 pub struct Stored {
     pub bytes: [u8; 256],
     pub len: usize,
@@ -36,7 +36,7 @@ pub struct Stored {
 
 // ---- what becomes of a call: it is accepted, or refused with a number
 
-#[derive(Drop)]
+#[derive(Clone, Copy)]
 pub enum Refusal {
     TextTooLong,
     PayloadTooLong,
@@ -47,7 +47,7 @@ pub enum Refusal {
     RetriesFull,
 }
 
-#[derive(Drop)]
+#[derive(Clone, Copy)]
 pub enum Outcome {
     Accepted,
     Refused(Refusal),
@@ -57,13 +57,13 @@ pub enum Outcome {
 // `PiStatus`, `ModeAck` and `Text` hold nothing but bytes, or nothing.
 
 #[repr(C)]
-#[derive(Drop)]
+#[derive(Clone, Copy)]
 pub struct StatusPoll {
     pub pi_mode: bool,
 }
 
 #[repr(C)]
-#[derive(Drop)]
+#[derive(Clone, Copy)]
 pub struct AvrStatus {
     pub version: u8,
     // 0 idle, 1 armed, 2 arming, 3 tracking
@@ -78,7 +78,7 @@ pub struct AvrStatus {
 
 // The Mevo+'s layout (version 0x80).
 #[repr(C)]
-#[derive(Drop)]
+#[derive(Clone, Copy)]
 pub struct DspStatus80 {
     pub state: u8,
     pub input_voltage_usb: i16,
@@ -93,20 +93,20 @@ pub struct DspStatus80 {
 
 // The Gen2's layout (version 0x46). Its payload stands beside.
 #[repr(C)]
-#[derive(Drop)]
+#[derive(Clone, Copy)]
 pub struct DspStatus46 {
     pub state: u8,
     pub version: u8,
 }
 
-#[derive(Drop)]
+#[derive(Clone, Copy)]
 pub enum DspStatus {
     V80(DspStatus80),
     V46(DspStatus46),
 }
 
 #[repr(C)]
-#[derive(Drop)]
+#[derive(Clone, Copy)]
 pub struct ConfigAck {
     // the side that acknowledges: a bus address
     pub bus_addr: u8,
@@ -115,7 +115,7 @@ pub struct ConfigAck {
 }
 
 // A nack with the source and the type id of its envelope.
-#[derive(Drop)]
+#[derive(Clone, Copy)]
 pub struct OptionNack {
     pub some: bool,
     pub src: BusAddr,
@@ -126,58 +126,58 @@ pub struct OptionNack {
 // ---- configuration records (src/protocol/config.rs)
 
 #[repr(C)]
-#[derive(Drop)]
+#[derive(Clone, Copy)]
 pub struct ModeSet {
     pub mode: u8,
 }
 
 #[repr(C)]
-#[derive(Drop)]
+#[derive(Clone, Copy)]
 pub struct AvrConfigCmd {
     // true arms, false opens or commits a configuration
     pub arm: bool,
 }
 
 #[repr(C)]
-#[derive(Drop)]
+#[derive(Clone, Copy)]
 pub struct ParamReadReq {
     pub param_id: u8,
 }
 
-#[derive(Drop)]
+#[derive(Clone, Copy)]
 pub enum ParamData {
     Int24(i32),
     Float40(f64),
 }
 
-#[derive(Drop)]
+#[derive(Clone, Copy)]
 pub struct ParamValue {
     pub param_id: u8,
     pub value: ParamData,
 }
 
 #[repr(C)]
-#[derive(Drop)]
+#[derive(Clone, Copy)]
 pub struct RadarCal {
     pub range_mm: u16,
     pub height_mm: u8,
 }
 
 #[repr(C)]
-#[derive(Drop)]
+#[derive(Clone, Copy)]
 pub struct ConfigResp {
     pub params: [i16; 34],
 }
 
 #[repr(C)]
-#[derive(Drop)]
+#[derive(Clone, Copy)]
 pub struct OptionConfigResp {
     pub some: bool,
     pub value: ConfigResp,
 }
 
 #[repr(C)]
-#[derive(Drop)]
+#[derive(Clone, Copy)]
 pub struct AvrConfigResp {
     pub payload: Stored,
 }
@@ -186,7 +186,7 @@ pub struct AvrConfigResp {
 // The replies that hold bytes are those that a sequence stores.
 
 #[repr(C)]
-#[derive(Drop)]
+#[derive(Clone, Copy)]
 pub struct DspQueryResp {
     pub version: u8,
     // 0x80 Mevo+, 0xC0 Gen2
@@ -195,59 +195,59 @@ pub struct DspQueryResp {
 }
 
 #[repr(C)]
-#[derive(Drop)]
+#[derive(Clone, Copy)]
 pub struct DevInfoResp {
     pub text: Stored,
     pub payload: Stored,
 }
 
 #[repr(C)]
-#[derive(Drop)]
+#[derive(Clone, Copy)]
 pub struct OptionDevInfoResp {
     pub some: bool,
     pub value: DevInfoResp,
 }
 
 #[repr(C)]
-#[derive(Drop)]
+#[derive(Clone, Copy)]
 pub struct ProdInfoReq {
     pub sub_query: u8,
 }
 
 #[repr(C)]
-#[derive(Drop)]
+#[derive(Clone, Copy)]
 pub struct ProdInfoResp {
     pub text: Stored,
 }
 
 #[repr(C)]
-#[derive(Drop)]
+#[derive(Clone, Copy)]
 pub struct NetConfigReq {
     pub query_password: bool,
 }
 
 #[repr(C)]
-#[derive(Drop)]
+#[derive(Clone, Copy)]
 pub struct CalParamResp {
     pub payload: Stored,
 }
 
 // Its ten bytes stand in `Action`.
 #[repr(C)]
-#[derive(Drop)]
+#[derive(Clone, Copy)]
 pub struct CalDataReq {
     pub sub_cmd: u8,
 }
 
 #[repr(C)]
-#[derive(Drop)]
+#[derive(Clone, Copy)]
 pub struct CalDataResp {
     pub payload: Stored,
 }
 
 // The tail of one that is sent stands in `Action`.
 #[repr(C)]
-#[derive(Drop)]
+#[derive(Clone, Copy)]
 pub struct TimeSync {
     // seconds since 1970
     pub epoch: u32,
@@ -257,7 +257,7 @@ pub struct TimeSync {
 // ---- the camera's configuration (src/protocol/camera.rs)
 
 #[repr(C)]
-#[derive(Drop)]
+#[derive(Clone, Copy)]
 pub struct CamConfig {
     pub dynamic_config: bool,
     pub resolution_width: i16,
@@ -291,7 +291,7 @@ pub struct CamConfig {
 
 // What the unit sends us: the 20 kinds that some sequence acts on, and `Other` for the 15 that none does. The bytes of a kind
 // (text, payload, the 34 numbers of a `ConfigResp`) stand beside the message.
-#[derive(Drop)]
+#[derive(Clone, Copy)]
 pub enum Message {
     AvrStatus(AvrStatus),
     DspStatus(DspStatus),
@@ -317,7 +317,7 @@ pub enum Message {
 }
 
 // What we send: the commands of the six sequences, of the result acknowledgement and of the keepalive.
-#[derive(Drop)]
+#[derive(Clone, Copy)]
 pub enum Command {
     StatusPoll(StatusPoll),
     ModeSet(ModeSet),
@@ -340,7 +340,7 @@ pub enum Command {
 
 // One command to send, or none: then every field is 0 or its type's first case. `payload` is that of a `CalDataReq`, `tail` that
 // of a `TimeSync`; both are 0 beside any other command.
-#[derive(Drop)]
+#[derive(Clone, Copy)]
 pub struct Action {
     pub some: bool,
     pub command: Command,

@@ -11,7 +11,7 @@ use words::{MODELS, SOURCES, byte_at, low_byte};
 // The most bytes of a line, without its line feed.
 pub const LINE: usize = 65_536;
 
-#[derive(Drop)]
+#[derive(Clone, Copy)]
 pub enum Sequence {
     Dsp,
     Avr(DeviceModel),
@@ -22,7 +22,7 @@ pub enum Sequence {
 }
 
 // The calls that a sequence has. Each has `feed`, and none has begun before the first.
-#[derive(Drop)]
+#[derive(Clone, Copy)]
 pub struct Calls {
     pub feed: bool,
     pub check: bool,
@@ -41,7 +41,7 @@ pub const NO_CALLS: Calls = Calls {
 };
 
 // An envelope and a clock reading. Its text is the first `text` of the stored bytes, its payload those from there to `payload`.
-#[derive(Drop)]
+#[derive(Clone, Copy)]
 pub struct Feed {
     pub now: u64,
     pub src: BusAddr,
@@ -55,7 +55,7 @@ pub struct Feed {
 }
 
 // A call that no sequence is needed for.
-#[derive(Drop)]
+#[derive(Clone, Copy)]
 pub enum DeviceCall {
     Ack(DeviceModel, BusAddr, u8),
     Keepalive,
@@ -64,7 +64,7 @@ pub enum DeviceCall {
     Model(usize),
 }
 
-#[derive(Drop)]
+#[derive(Clone, Copy)]
 pub enum Call {
     // of a line that can't be read, or at the end of a list
     None,
@@ -78,7 +78,7 @@ pub enum Call {
 }
 
 // A call, and the cursor behind it. The call is made only if the cursor isn't bad.
-#[derive(Drop)]
+#[derive(Clone, Copy)]
 pub struct Read {
     pub c: Cursor,
     pub call: Call,
@@ -105,13 +105,13 @@ impl Calls {
     }
 }
 
-#[derive(Drop)]
+#[derive(Clone, Copy)]
 struct Model {
     c: Cursor,
     model: DeviceModel,
 }
 
-#[derive(Drop)]
+#[derive(Clone, Copy)]
 struct Source {
     c: Cursor,
     src: BusAddr,

@@ -6,7 +6,7 @@ use words::{behind, part};
 const NAMES: usize = 32;
 
 // Where reading stands. Where a line can't be read, `at` is the place, and reading goes no further.
-#[derive(Drop)]
+#[derive(Clone, Copy)]
 pub struct Cursor {
     pub at: usize,
     // one of the reasons
@@ -14,14 +14,14 @@ pub struct Cursor {
 }
 
 // The cursor behind a name, and the place behind it in the names.
-#[derive(Drop)]
+#[derive(Clone, Copy)]
 pub struct Named {
     pub c: Cursor,
     pub form: usize,
 }
 
 // A word, or the value of a field.
-#[derive(Drop)]
+#[derive(Clone, Copy)]
 pub struct Span {
     pub from: usize,
     pub to: usize,

@@ -7,7 +7,7 @@ use words::kinds;
 use words::kinds::{VALUES, place_of};
 
 // The number of a kind, and the cursor behind it, or behind its name.
-#[derive(Drop)]
+#[derive(Clone, Copy)]
 pub struct Kind {
     pub c: Cursor,
     pub kind: usize,

@@ -3,7 +3,7 @@ use crate::cursor::Cursor;
 use scanning::bytes::BYTES;
 
 // The end of the bytes in their buffer, and the cursor behind them in the line.
-#[derive(Drop)]
+#[derive(Clone, Copy)]
 pub struct Bytes {
     pub c: Cursor,
     pub end: usize,

@@ -1,4 +1,6 @@
 // Reads the lines of a list of calls, as docs/REPLAY.md says.
+#![tactic(auto)]
+
 pub mod call;
 pub mod cursor;
 mod fields;

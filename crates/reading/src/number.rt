@@ -6,14 +6,14 @@ use scanning::number::{
 use scanning::{past_blanks, reasons};
 
 // The largest value of a field; the smallest is 0, or one below its negative.
-#[derive(Drop)]
+#[derive(Clone, Copy)]
 pub struct Limit {
     pub most: u64,
     pub signed: bool,
 }
 
 // A value, and the cursor behind it.
-#[derive(Drop)]
+#[derive(Clone, Copy)]
 pub struct Number {
     pub c: Cursor,
     pub value: u64,

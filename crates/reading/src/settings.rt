@@ -4,7 +4,7 @@ use crate::cursor::Cursor;
 use words::kinds;
 use words::kinds::{VALUES, place_of_param};
 
-#[derive(Drop)]
+#[derive(Clone, Copy)]
 pub enum Settings {
     // how many parameters there are, and whether there is a calibration
     Listed(usize, bool),

@@ -1,5 +1,7 @@
 // replay [--show] [--state] [--status] [FILE]: writes what each call of a list answers, as docs/REPLAY.md says. Messages go to standard error. A
 // program has no exit status: with --status it is written to descriptor 3, from which the script ./replay takes it.
+#![tactic(auto)]
+
 use libc::{STDERR_FILENO, STDIN_FILENO};
 use streams::Ended;
 
@@ -7,7 +9,7 @@ use streams::Ended;
 const STATUS_FILENO: i32 = 3;
 
 // What the command line asks. `file` is the number of its argument, or 0.
-#[derive(Drop)]
+#[derive(Clone, Copy)]
 struct Task {
     valid: bool,
     with_state: bool,
@@ -16,7 +18,7 @@ struct Task {
     file: usize,
 }
 
-#[derive(Drop)]
+#[derive(Clone, Copy)]
 enum Argument {
     State,
     Show,

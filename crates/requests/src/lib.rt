@@ -1,4 +1,6 @@
 // Sends with fields. Those that a sequence makes of its own records (ProdInfoReq, ParamValue, ModeSet, RadarCal) stand with it.
+#![tactic(auto)]
+
 ghost use Rattle.std.specs.Prelude.{◌≡◌};
 ghost use Rattle.requests.specs.Requests.{status_poll, param_read_req, net_config_req, cal_data_req, time_sync, avr_config_cmd};
 

@@ -7,7 +7,7 @@ use words::{byte_at, part};
 pub const BYTES: usize = 65_536;
 
 // The end of the bytes in their buffer, and the place behind them in the line; or the place where they can't be read, and why.
-#[derive(Drop)]
+#[derive(Clone, Copy)]
 pub struct Got {
     pub end: usize,
     pub at: usize,
@@ -15,7 +15,7 @@ pub struct Got {
 }
 
 // A byte that is escaped, and where the next one stands: at the same place if it is a bad escape.
-#[derive(Drop)]
+#[derive(Clone, Copy)]
 struct Symbol {
     byte: u8,
     next: usize,

@@ -1,4 +1,6 @@
 // The bytes of a line: blanks, names, digits, and the bytes that a call is lent. What they say is the business of `reading`.
+#![tactic(auto)]
+
 pub mod bytes;
 pub mod number;
 pub mod reasons;

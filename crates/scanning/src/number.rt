@@ -3,7 +3,7 @@ use crate::{ends, starts};
 use words::byte_at;
 
 // What digits wrote, and the place behind them.
-#[derive(Drop)]
+#[derive(Clone, Copy)]
 pub struct Digits {
     pub to: usize,
     // whether there is a digit

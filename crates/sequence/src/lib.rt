@@ -1,4 +1,6 @@
 // What the sequences have in common: which calls are accepted, and deadlines.
+#![tactic(auto)]
+
 ghost use Rattle.std.specs.Prelude.{◌≡◌};
 ghost use Rattle.protocol.specs.Refusals.{outcome, lowest};
 ghost use Rattle.sequence.specs.Accepted.{bytes_refusals, feed_refusals, check_refusals};
@@ -15,7 +17,7 @@ const MAX_READING: u64 = 18_446_744_071_709_551_615;
 const MAX_INSTANT: u64 = 18_446_744_073_709_551_615;
 
 #[repr(C)]
-#[derive(Drop)]
+#[derive(Clone, Copy)]
 pub struct OptionInstant {
     pub some: bool,
     pub value: u64,

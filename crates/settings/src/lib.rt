@@ -1,4 +1,6 @@
 // The settings of an AVR configuration (src/seq.rs, "Phase 4").
+#![tactic(auto)]
+
 ghost use Rattle.std.specs.Prelude.{◌≡◌};
 ghost use Rattle.settings.specs.Settings.{no_param, no_cal, mode_only, mevo_params, from_mevo, kept_params, kept_cal, kept};
 
@@ -8,13 +10,13 @@ use protocol::{ParamData, ParamValue, RadarCal};
 pub const MAX_PARAMS: usize = 32;
 
 #[repr(C)]
-#[derive(Drop)]
+#[derive(Clone, Copy)]
 pub struct OptionRadarCal {
     pub some: bool,
     pub value: RadarCal,
 }
 
-#[derive(Drop)]
+#[derive(Clone, Copy)]
 pub struct AvrSettings {
     // detection mode
     pub mode: u8,
@@ -25,7 +27,7 @@ pub struct AvrSettings {
 }
 
 // Everything that is set on a Mevo+ or Mevo Gen2.
-#[derive(Drop)]
+#[derive(Clone, Copy)]
 pub struct MevoSettings {
     pub mode: u8,
     // 0 standard, 1 RCT

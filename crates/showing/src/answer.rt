@@ -133,7 +133,7 @@ fn parts(shown: Shown, moved: bool, out: &mut [u8; OUT], at: usize, plain: &[u8]
 }
 
 // What is shown after an answer, and where it ended.
-#[derive(Drop)]
+#[derive(Clone, Copy)]
 pub struct Laid {
     pub shown: Shown,
     pub at: usize,

@@ -1,5 +1,7 @@
 // A list for people: its lines, and the answers laid out below them, as docs/REPLAY.md says under "Shown to people". It goes by the text of the
 // answers, and knows nothing of what the sequences store.
+#![tactic(auto)]
+
 pub mod answer;
 mod fields;
 mod summary;
@@ -14,7 +16,7 @@ use writing::write::OUT;
 const PLAIN: usize = 16_384;
 
 // What the layout goes by, beside the answer.
-#[derive(Drop)]
+#[derive(Clone, Copy)]
 pub struct Shown {
     // whether the list is shown
     pub on: bool,

@@ -1,5 +1,7 @@
 // A list as it is read, line by line, and its answers as they are written out. Lines that need no sequence are answered here
 // (device_calls, bad); the calls of sequences are left to others (next).
+#![tactic(auto)]
+
 mod bad;
 mod device_calls;
 pub mod next;
@@ -24,7 +26,7 @@ const NEARLY_FULL: usize = 98_304;
 const ROOM_FOR_LINE: usize = 16_384;
 
 // Where a list stands. Its input, the line that is read and the output are in buffers beside it.
-#[derive(Drop)]
+#[derive(Clone, Copy)]
 pub struct Stream {
     pub fd: i32,
     // whether the stored state stands behind each answer
@@ -55,7 +57,7 @@ pub struct Stream {
 }
 
 // How a list ended.
-#[derive(Drop)]
+#[derive(Clone, Copy)]
 pub struct Ended {
     // a line was none that can be read
     pub bad_line: bool,
@@ -124,7 +126,7 @@ fn line_feed(input: &[u8], from: usize) -> usize {
 }
 
 // The next bytes of a line, up to its line feed or the end of the input.
-#[derive(Drop)]
+#[derive(Clone, Copy)]
 struct Gathered {
     line: usize,
     at: usize,

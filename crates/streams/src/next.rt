@@ -7,7 +7,7 @@ use words::{byte_at, part};
 use writing::write::OUT;
 
 // A call, whose answer goes to the end of the output, where its number stands already. `Call::None` is no call.
-#[derive(Drop)]
+#[derive(Clone, Copy)]
 pub struct Turn {
     pub stream: Stream,
     pub call: Call,

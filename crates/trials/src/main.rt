@@ -1,5 +1,7 @@
 // Runs the trials of data/trials.list, then shows the examples, and the list data/odd.list with its states. What must be written, in
 // stdout, was written by the Rust (oracle/regenerate).
+#![tactic(auto)]
+
 use libc::STDOUT_FILENO;
 
 fn run(path: &[u8], with_state: bool, shown: bool) {

@@ -1,4 +1,6 @@
 // Places in bytes, and tables of names: what reading and writing have in common.
+#![tactic(auto)]
+
 pub mod kinds;
 
 // Names that are both read and written. They have one space between them.

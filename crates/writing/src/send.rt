@@ -41,7 +41,7 @@ const CAL_DATA_REQ: usize = 13;
 const TIME_SYNC: usize = 14;
 
 // The place of a command in COMMANDS, and its numbers.
-#[derive(Drop)]
+#[derive(Clone, Copy)]
 struct Numbers {
     command: usize,
     first: u64,
