@@ -2,7 +2,7 @@
 -- Assumes nothing.
 use Prim.Native.Nat.{ℕ}
 use mathlib.Core.Path.{◌≡◌, refl, sym, ap}
-use mathlib.Core.Bool.{Bool, true, false, ◌&&◌, ◌||◌, and_false, or-true, or-false}
+use mathlib.Core.Bool.{Bool, true, false, ◌&&◌, ◌||◌, and-false, or-true, or-false}
 use lib.Dec.{eqb}
 use Rattle.protocol.specs.declared.Message.{Message}
 use Rattle.protocol.specs.Addr.{byte_of}
@@ -14,7 +14,7 @@ use Rattle.arm_steps.specs.Answers.{dsp_status, avr_status, nack, ack, pi_status
 
 -- an envelope of another kind, or from another device
 pub other_kind : (n k : ℕ) (e : Envelope) → of_kind k e ≡ false → kind n k e ≡ false
-other_kind n k e h = rw h (and_false (eqb (byte_of e.src) n))
+other_kind n k e h = rw h (and-false (eqb (byte_of e.src) n))
 
 pub other_source : (n k : ℕ) (e : Envelope) → eqb (byte_of e.src) n ≡ false → kind n k e ≡ false
 other_source n k e h = rw h

@@ -9,7 +9,6 @@ use lib.Dec.{eqb, ltb}
 use types.Run.{OneOf, miss}
 use denote.Enum.Declared as Declared
 use borrow.Author.Tests.{lt-ltb, le-ltb}
-use Rattle.protocol.specs.declared.Command.{Command}
 use Rattle.protocol.specs.declared.Outcome.{Outcome}
 use Rattle.protocol.specs.Action.{no_action}
 use Rattle.protocol.specs.Addr.{byte_of}
@@ -19,7 +18,6 @@ use Rattle.sequence.proofs.Arms.{at_ticks, at_idles}
 use Rattle.pi_table.specs.declared.PiStep.{PiStep}
 use Rattle.pi_table.specs.declared.PiStep.TheVariants.{WaitStatus, WaitDevInfo, WaitParam0A, WaitCamConfig1, WaitCamConfig2, WaitNetConfig, WaitNetConfigPw, WaitParams, Done}
 use Rattle.pi.specs.declared.PiSequencer.{PiSequencer}
-use Rattle.pi_table.specs.Stores.{to_pi}
 use Rattle.pi_table.specs.Table.{PiRow, param_row, row, next, request}
 use Rattle.pi.specs.Answers.{view, made, advance, arm_at, is_done}
 use Rattle.pi_table.specs.contracts.PiStep as step
