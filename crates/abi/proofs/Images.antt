@@ -2,13 +2,12 @@
 -- all formats up to a place are known.
 -- Assumes nothing.
 use mathlib.Core.Path.{◌≡◌, refl, sym, ap, ◌∙◌}
-use mathlib.Core.Bool.{and_true, and_assoc, ◌&&◌}
-use mathlib.Core.List.{List, [], ◌∷◌, map, append-nil}
+use mathlib.Core.Bool.{and-true, and_assoc, ◌&&◌}
+use mathlib.Core.List.{List, [], ◌∷◌, map}
 use Prim.Native.Nat.{ℕ, zero, suc, ◌+◌, ◌<◌}
 use native.Mathlib.Numerals.{add-one}
 use native.Mathlib.Omega.{arith}
 use lib.ListN.{length, get_or, set, take, length-map, get_or-map}
-use lib.Seq.{take_all}
 use Rattle.protocol.proofs.Filled.{filled, more}
 use Rattle.abi_values.specs.declared.CParamValue.{CParamValue}
 use Rattle.abi_values.specs.Params.{param_in}
@@ -27,12 +26,6 @@ image f n z xs i d h k =
     ap (λ v. set (filled n z (map f xs) i) i v) (sym (get_or-map f xs i d) ∙ within (map f xs) i (f d) z (omega arith))
     ∙ more n z (map f xs) i (omega arith) k
 
--- all of them
-pub images : {A B : Type 0} (f : A → B) (z : B) (xs : List A) → length xs ≡ 32 → filled 32 z (map f xs) 32 ≡ map f xs
-images f z xs h =
-    let there : length (map f xs) ≡ length xs = length-map xs f in
-    rw (append-nil (take 32 (map f xs))) (take_all 32 (map f xs) (omega arith))
-
 -- one more format
 pub known_more : (ps : List CParamValue) (i : ℕ) (d : CParamValue) → i < length ps
     → all_known (take i ps) && (param_in (get_or ps i d)).known ≡ all_known (take (i + 1) ps)
@@ -40,5 +33,5 @@ known_more ps i d h = rw (add-one) (go ps i h)
   where
     go : (qs : List CParamValue) (j : ℕ) → j < length qs → all_known (take j qs) && (param_in (get_or qs j d)).known ≡ all_known (take (suc j) qs)
     go [] j k = absurd (omega arith)
-    go (q ∷ qs) zero k = sym (and_true (param_in q).known)
+    go (q ∷ qs) zero k = sym (and-true (param_in q).known)
     go (q ∷ qs) (suc j) k = and_assoc (param_in q).known (all_known (take j qs)) (param_in (get_or qs j d)).known ∙ ap (λ b. (param_in q).known && b) (go qs j (omega arith))

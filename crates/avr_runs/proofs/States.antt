@@ -21,7 +21,7 @@ use Rattle.matching.proofs.Called.{Called, events_rise}
 use Rattle.sequence.specs.declared.OptionInstant.{OptionInstant}
 use Rattle.sequence.specs.Accepted.{none, feed_refusals, check_refusals, feed_outcome, check_outcome}
 use Rattle.sequence.specs.Events.{Event, fed, checked, reading, Wait, forever, nanos}
-use Rattle.sequence.specs.Rows.{reached, State, no_deadline, heard}
+use Rattle.sequence.specs.Rows.{reached, State, no_deadline}
 use Rattle.sequence.specs.Calls.{feed, check, ask}
 use Rattle.sequence.proofs.Acceptance.{feed_accepted, check_accepted, feed_fits, check_fits}
 use Rattle.sequence.proofs.Events.{rises, judge}
