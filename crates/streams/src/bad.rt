@@ -22,7 +22,7 @@ fn expected(from: usize, out: &mut [u8; OUT], at: usize) -> usize {
 
 fn column(at: usize, out: &mut [u8; OUT], start: usize) -> usize {
     let mut end = write::text(out, start, b"bad line at column ");
-    end = write::decimal(out, end, std::num::wrapping_add_usize(at, 1) as u64);
+    end = write::decimal(out, end, at.wrapping_add(1) as u64);
     write::text(out, end, b": ")
 }
 

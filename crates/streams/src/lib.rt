@@ -6,9 +6,10 @@ mod bad;
 mod device_calls;
 pub mod next;
 
-use libc::STDOUT_FILENO;
 use reading::call::{Call, LINE, Sequence};
 use showing::Shown;
+use std::fs::File;
+use std::io::{ErrorKind, Read, Stdin, Stdout, Write};
 use words::{find, part};
 use writing::write;
 use writing::write::OUT;
@@ -25,10 +26,18 @@ const NEARLY_FULL: usize = 98_304;
 // The same before a line of a list that is shown: it takes up to 79,000 bytes, folded, and the mark and the answer come behind it.
 const ROOM_FOR_LINE: usize = 16_384;
 
+// Where a list is read from.
+#[derive(Clone, Copy)]
+pub enum Source<'a> {
+    Standard(Stdin),
+    Opened(&'a File),
+}
+
 // Where a list stands. Its input, the line that is read and the output are in buffers beside it.
 #[derive(Clone, Copy)]
-pub struct Stream {
-    pub fd: i32,
+pub struct Stream<'a> {
+    pub source: Source<'a>,
+    pub stdout: Stdout,
     // whether the stored state stands behind each answer
     pub with_state: bool,
     // whether and how it is shown to people
@@ -52,8 +61,9 @@ pub struct Stream {
     pub bad_line: bool,
     // whether a read failed
     pub unread: bool,
-    // whether output was lost
+    // whether output was lost, and whether because nobody reads it any more
     pub unwritten: bool,
+    pub unheard: bool,
 }
 
 // How a list ended.
@@ -65,6 +75,22 @@ pub struct Ended {
     pub unread: bool,
     // output could not be written
     pub unwritten: bool,
+    // that is since nobody reads it any more
+    pub unheard: bool,
+}
+
+// One read. An error of it is no number.
+fn read(source: Source<'_>, input: &mut [u8; INPUT]) -> Option<usize> {
+    match source {
+        Source::Standard(stdin) => {
+            let mut reader = stdin;
+            reader.read(input).ok()
+        }
+        Source::Opened(file) => {
+            let mut reader = file;
+            reader.read(input).ok()
+        }
+    }
 }
 
 fn least(a: usize, b: usize) -> usize {
@@ -158,11 +184,12 @@ fn gather(input: &[u8], from: usize, buffer: &mut [u8; LONGER], line: usize) -> 
     }
 }
 
-impl Stream {
+impl<'a> Stream<'a> {
     // A list before its first line.
-    pub fn new(fd: i32, with_state: bool, shown: bool) -> Stream {
+    pub fn new(source: Source<'a>, stdout: Stdout, with_state: bool, shown: bool) -> Stream<'a> {
         Stream {
-            fd: fd,
+            source: source,
+            stdout: stdout,
             with_state: with_state,
             shown: Shown::new(shown),
             number: 0,
@@ -177,13 +204,14 @@ impl Stream {
             bad_line: false,
             unread: false,
             unwritten: false,
+            unheard: false,
         }
     }
 
     // Before the next line.
-    fn counted(self) -> Stream {
+    fn counted(self) -> Stream<'a> {
         let mut next = self;
-        next.number = std::num::wrapping_add_u64(self.number, 1);
+        next.number = self.number.wrapping_add(1);
         next.line = 0;
         next.whole = false;
         next.inside = false;
@@ -191,13 +219,13 @@ impl Stream {
     }
 
     // With the line, if all of it is in the input.
-    fn found(self, input: &[u8]) -> Stream {
+    fn found(self, input: &[u8]) -> Stream<'a> {
         let mut next = self;
         let to = line_feed(part(input, 0, self.end), self.at);
         if to < self.end {
             next.from = self.at;
             next.at = to + 1;
-            next.line = std::num::wrapping_sub_usize(to, self.at);
+            next.line = to.wrapping_sub(self.at);
             next.whole = true;
             next.inside = true;
         }
@@ -205,7 +233,7 @@ impl Stream {
     }
 
     // With the next bytes of the line.
-    fn gathered(self, input: &[u8], line: &mut [u8; LONGER]) -> Stream {
+    fn gathered(self, input: &[u8], line: &mut [u8; LONGER]) -> Stream<'a> {
         let got = gather(part(input, 0, self.end), self.at, line, self.line);
         let mut next = self;
         next.at = got.at;
@@ -215,28 +243,30 @@ impl Stream {
     }
 
     // With the output written out where it is longer than this.
-    fn flushed(self, out: &[u8], most: usize) -> Stream {
+    fn flushed(self, out: &[u8], most: usize) -> Stream<'a> {
         if self.out <= most {
             return self;
         }
         let mut next = self;
         next.out = 0;
-        if !io::write_all(STDOUT_FILENO, part(out, 0, self.out)) {
+        let mut stdout = self.stdout;
+        if let Err(e) = stdout.write_all(part(out, 0, self.out)) {
             next.more = false;
             next.unwritten = true;
+            next.unheard = e.kind() == ErrorKind::BrokenPipe;
         }
         next
     }
 
     // After one more read. Nobody waits for an answer while it waits for input.
-    fn filled(self, input: &mut [u8; INPUT], out: &[u8]) -> Stream {
+    fn filled(self, input: &mut [u8; INPUT], out: &[u8]) -> Stream<'a> {
         let mut next = self.flushed(out, 0);
-        let got = libc::read(next.fd, input);
+        let got = read(next.source, input);
         next.at = 0;
-        next.end = io::count(got, input);
-        if got <= 0 {
+        next.end = got.unwrap_or(0);
+        if next.end == 0 {
             next.more = false;
-            next.unread = got < 0;
+            next.unread = got.is_none();
         }
         next
     }
@@ -255,7 +285,7 @@ impl Stream {
         input: &mut [u8; INPUT],
         line: &mut [u8; LONGER],
         out: &[u8; OUT],
-    ) -> Stream {
+    ) -> Stream<'a> {
         let mut next = self.counted().found(input);
         if next.whole {
             return next;
@@ -278,7 +308,7 @@ impl Stream {
     }
 
     // With the line itself written, if the list is shown. Of a longer one than may be its first bytes are.
-    pub fn echoed(self, line: &[u8], out: &mut [u8; OUT]) -> Stream {
+    pub fn echoed(self, line: &[u8], out: &mut [u8; OUT]) -> Stream<'a> {
         let shown = self.shown;
         if !shown.on {
             return self;
@@ -289,7 +319,7 @@ impl Stream {
     }
 
     // With the number of the line written, before its answer. A list that is shown has the line there.
-    pub fn numbered(self, out: &mut [u8; OUT]) -> Stream {
+    pub fn numbered(self, out: &mut [u8; OUT]) -> Stream<'a> {
         let shown = self.shown;
         if shown.on {
             return self;
@@ -301,7 +331,7 @@ impl Stream {
     }
 
     // After a line that can't be read from this place on. Below one that is shown the place is marked.
-    pub fn unread_line(self, line: &[u8], place: usize, out: &mut [u8; OUT]) -> Stream {
+    pub fn unread_line(self, line: &[u8], place: usize, out: &mut [u8; OUT]) -> Stream<'a> {
         let shown = self.shown;
         let mut next = self;
         next.bad_line = true;
@@ -314,7 +344,7 @@ impl Stream {
     }
 
     // Before the answer to a call.
-    pub fn called(self, call: Call) -> Stream {
+    pub fn called(self, call: Call) -> Stream<'a> {
         let shown = self.shown;
         if !shown.on {
             return self;
@@ -326,7 +356,7 @@ impl Stream {
     }
 
     // With the answer that ends at `at` laid out.
-    fn laid_out(self, out: &mut [u8; OUT], at: usize) -> Stream {
+    fn laid_out(self, out: &mut [u8; OUT], at: usize) -> Stream<'a> {
         let laid = showing::lay(self.shown, out, self.out, at);
         let shown = laid.shown;
         let mut next = self;
@@ -336,7 +366,7 @@ impl Stream {
     }
 
     // After an answer that ends at `at`.
-    pub fn answered(self, out: &mut [u8; OUT], at: usize) -> Stream {
+    pub fn answered(self, out: &mut [u8; OUT], at: usize) -> Stream<'a> {
         let shown = self.shown;
         if shown.on {
             return self.laid_out(out, at).flushed(out, NEARLY_FULL);
@@ -347,7 +377,7 @@ impl Stream {
     }
 
     // Sums up a list that is shown.
-    fn summed_up(self, out: &mut [u8; OUT]) -> Stream {
+    fn summed_up(self, out: &mut [u8; OUT]) -> Stream<'a> {
         let shown = self.shown;
         if !shown.on {
             return self;
@@ -367,6 +397,7 @@ impl Stream {
             bad_line: last.bad_line,
             unread: last.unread,
             unwritten: last.unwritten,
+            unheard: last.unheard,
         }
     }
 }

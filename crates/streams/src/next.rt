@@ -8,13 +8,13 @@ use writing::write::OUT;
 
 // A call, whose answer goes to the end of the output, where its number stands already. `Call::None` is no call.
 #[derive(Clone, Copy)]
-pub struct Turn {
-    pub stream: Stream,
+pub struct Turn<'a> {
+    pub stream: Stream<'a>,
     pub call: Call,
 }
 
-impl Turn {
-    pub fn without_call(stream: Stream) -> Turn {
+impl<'a> Turn<'a> {
+    pub fn without_call(stream: Stream<'a>) -> Turn<'a> {
         Turn {
             stream: stream,
             call: Call::None,
@@ -42,7 +42,7 @@ impl Turn {
 }
 
 // Answers a call that no sequence is needed for, and leaves any other.
-fn outside(stream: Stream, call: Call, bytes: &[u8], out: &mut [u8; OUT]) -> Turn {
+fn outside<'a>(stream: Stream<'a>, call: Call, bytes: &[u8], out: &mut [u8; OUT]) -> Turn<'a> {
     match call {
         Call::Device(other) => {
             let end = device_calls::answer(other, bytes, out, stream.out);
@@ -56,15 +56,15 @@ fn outside(stream: Stream, call: Call, bytes: &[u8], out: &mut [u8; OUT]) -> Tur
 }
 
 // The call of a line, if a sequence answers it.
-fn call_of(
-    stream: Stream,
+fn call_of<'a>(
+    stream: Stream<'a>,
     line: &[u8],
     kinds: &[u8],
     calls: Calls,
     values: &mut [u64; VALUES],
     bytes: &mut [u8; BYTES],
     out: &mut [u8; OUT],
-) -> Turn {
+) -> Turn<'a> {
     let echoed = stream.echoed(line, out);
     if is_comment(line) {
         return Turn::without_call(echoed);
@@ -82,8 +82,8 @@ fn call_of(
 }
 
 // The line that was read, and begins at `from`. A byte order mark before the first one is taken as nothing.
-fn line_of(bytes: &[u8], from: usize, stream: Stream) -> &[u8] {
-    let whole = part(bytes, from, std::num::wrapping_add_usize(from, stream.line));
+fn line_of<'a>(bytes: &'a [u8], from: usize, stream: Stream<'_>) -> &'a [u8] {
+    let whole = part(bytes, from, from.wrapping_add(stream.line));
     if stream.number != 1 {
         return whole;
     }
@@ -95,8 +95,8 @@ fn line_of(bytes: &[u8], from: usize, stream: Stream) -> &[u8] {
 
 // The next call for a sequence that has these calls, none before the first sequence.
 // It is `Call::None` at the end of the list. Lines before it that need no sequence are answered.
-pub fn next(
-    start: Stream,
+pub fn next<'a>(
+    start: Stream<'a>,
     calls: Calls,
     kinds: &Kinds,
     input: &mut [u8; INPUT],
@@ -104,7 +104,7 @@ pub fn next(
     values: &mut [u64; VALUES],
     bytes: &mut [u8; BYTES],
     out: &mut [u8; OUT],
-) -> Turn {
+) -> Turn<'a> {
     let mut stream = start;
     let mut turns = u64::MAX;
     loop {
