@@ -132,7 +132,7 @@ fn result(avr: AvrSequencer, out: &mut [u8; OUT], at: usize) -> usize {
 // A call of a start-up that has begun: `result`, where it is no other.
 fn call(
     done: Answered,
-    turn: Turn,
+    turn: Turn<'_>,
     values: &[u64; VALUES],
     bytes: &[u8; BYTES],
     out: &mut [u8; OUT],
@@ -151,7 +151,7 @@ fn call(
 }
 
 // Ends an answer, with every stored field if they are asked for.
-fn end(done: Answered, stream: Stream, out: &mut [u8; OUT]) -> Stream {
+fn end<'a>(done: Answered, stream: Stream<'a>, out: &mut [u8; OUT]) -> Stream<'a> {
     let mut at = done.at;
     if stream.with_state {
         at = stored::state(out, at, done.avr);
@@ -161,16 +161,16 @@ fn end(done: Answered, stream: Stream, out: &mut [u8; OUT]) -> Stream {
 
 // A start-up from its beginning, whose number is written, to the beginning of the next sequence or the end of the list. The calls
 // are counted down, as reads are.
-pub fn run(
+pub fn run<'a>(
     model: DeviceModel,
-    stream: Stream,
+    stream: Stream<'a>,
     kinds: &Kinds,
     input: &mut [u8; INPUT],
     line: &mut [u8; LONGER],
     values: &mut [u64; VALUES],
     bytes: &mut [u8; BYTES],
     out: &mut [u8; OUT],
-) -> Turn {
+) -> Turn<'a> {
     let mut done = begin(model, out, stream.out);
     let mut turn = Turn::without_call(stream);
     let mut turns = u64::MAX;
