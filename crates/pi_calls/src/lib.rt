@@ -52,7 +52,7 @@ fn place_of(step: PiStep) -> usize {
 // The place of the entry that is awaited. Of the last step each parameter has one.
 fn entry_of(step: PiStep) -> usize {
     match step {
-        PiStep::WaitParams { idx } => std::num::wrapping_add_usize(7, idx),
+        PiStep::WaitParams { idx } => 7usize.wrapping_add(idx),
         PiStep::Done => 16,
         _ => place_of(step) / WIDTH,
     }
@@ -128,7 +128,7 @@ fn result(pi: PiSequencer, out: &mut [u8; OUT], at: usize) -> usize {
 // A call of a start-up that has begun: `result`, where it is no other.
 fn call(
     done: Answered,
-    turn: Turn,
+    turn: Turn<'_>,
     values: &[u64; VALUES],
     bytes: &[u8; BYTES],
     out: &mut [u8; OUT],
@@ -146,7 +146,7 @@ fn call(
 }
 
 // Ends an answer, with every stored field if they are asked for.
-fn end(done: Answered, stream: Stream, out: &mut [u8; OUT]) -> Stream {
+fn end<'a>(done: Answered, stream: Stream<'a>, out: &mut [u8; OUT]) -> Stream<'a> {
     let mut at = done.at;
     if stream.with_state {
         at = stored::state(out, at, done.pi.replies);
@@ -156,15 +156,15 @@ fn end(done: Answered, stream: Stream, out: &mut [u8; OUT]) -> Stream {
 
 // A start-up from its beginning, whose number is written, to the beginning of the next sequence or the end of the list. The calls
 // are counted down, as reads are.
-pub fn run(
-    stream: Stream,
+pub fn run<'a>(
+    stream: Stream<'a>,
     kinds: &Kinds,
     input: &mut [u8; INPUT],
     line: &mut [u8; LONGER],
     values: &mut [u64; VALUES],
     bytes: &mut [u8; BYTES],
     out: &mut [u8; OUT],
-) -> Turn {
+) -> Turn<'a> {
     let mut done = begin(out, stream.out);
     let mut turn = Turn::without_call(stream);
     let mut turns = u64::MAX;
