@@ -89,7 +89,7 @@ fn feed(
 // A call after the beginning. It is a `feed`: a disarm has no other.
 fn call(
     done: Answered,
-    turn: Turn,
+    turn: Turn<'_>,
     values: &[u64; VALUES],
     bytes: &[u8; BYTES],
     out: &mut [u8; OUT],
@@ -107,7 +107,7 @@ fn call(
 }
 
 // Ends an answer. If the stored fields are asked for, there are none.
-fn end(done: Answered, stream: Stream, out: &mut [u8; OUT]) -> Stream {
+fn end<'a>(done: Answered, stream: Stream<'a>, out: &mut [u8; OUT]) -> Stream<'a> {
     let mut at = done.at;
     if stream.with_state {
         at = write::text(out, at, b"; state");
@@ -117,15 +117,15 @@ fn end(done: Answered, stream: Stream, out: &mut [u8; OUT]) -> Stream {
 
 // A disarm from its beginning, whose number is written, to the beginning of the next sequence or the end of the list. The calls are
 // counted down, as reads are.
-pub fn run(
-    stream: Stream,
+pub fn run<'a>(
+    stream: Stream<'a>,
     kinds: &Kinds,
     input: &mut [u8; INPUT],
     line: &mut [u8; LONGER],
     values: &mut [u64; VALUES],
     bytes: &mut [u8; BYTES],
     out: &mut [u8; OUT],
-) -> Turn {
+) -> Turn<'a> {
     let mut done = begin(out, stream.out);
     let mut turn = Turn::without_call(stream);
     let mut turns = u64::MAX;
