@@ -109,7 +109,7 @@ fn state(out: &mut [u8; OUT], at: usize, arm: ArmSequencer) -> usize {
 // A call after the beginning: `retries`, where it is no `feed`.
 fn call(
     done: Answered,
-    turn: Turn,
+    turn: Turn<'_>,
     values: &[u64; VALUES],
     bytes: &[u8; BYTES],
     out: &mut [u8; OUT],
@@ -127,7 +127,7 @@ fn call(
 }
 
 // Ends an answer, with every stored field if they are asked for.
-fn end(done: Answered, stream: Stream, out: &mut [u8; OUT]) -> Stream {
+fn end<'a>(done: Answered, stream: Stream<'a>, out: &mut [u8; OUT]) -> Stream<'a> {
     let mut at = done.at;
     if stream.with_state {
         at = state(out, at, done.arm);
@@ -137,16 +137,16 @@ fn end(done: Answered, stream: Stream, out: &mut [u8; OUT]) -> Stream {
 
 // An arm from its beginning, whose number is written, to the beginning of the next sequence or the end of the list. The calls are
 // counted down, as reads are.
-pub fn run(
+pub fn run<'a>(
     model: DeviceModel,
-    stream: Stream,
+    stream: Stream<'a>,
     kinds: &Kinds,
     input: &mut [u8; INPUT],
     line: &mut [u8; LONGER],
     values: &mut [u64; VALUES],
     bytes: &mut [u8; BYTES],
     out: &mut [u8; OUT],
-) -> Turn {
+) -> Turn<'a> {
     let mut done = begin(model, out, stream.out);
     let mut turn = Turn::without_call(stream);
     let mut turns = u64::MAX;
