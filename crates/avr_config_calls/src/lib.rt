@@ -36,7 +36,7 @@ struct Answered {
 
 // Twice a number of parameters, which are few, and something more.
 fn twice(params: usize, more: usize) -> usize {
-    std::num::wrapping_add_usize(std::num::wrapping_add_usize(params, params), more)
+    params.wrapping_add(params).wrapping_add(more)
 }
 
 // The place of the entry that is awaited. Each of the parameters has two, between the first entry and that of the mode.
@@ -134,7 +134,7 @@ fn feed(
 // A call of a run that has begun: it has no other than `feed`.
 fn call(
     done: Answered,
-    turn: Turn,
+    turn: Turn<'_>,
     values: &[u64; VALUES],
     bytes: &[u8; BYTES],
     out: &mut [u8; OUT],
@@ -149,7 +149,7 @@ fn call(
 }
 
 // Ends an answer, with every stored field if they are asked for.
-fn end(done: Answered, stream: Stream, out: &mut [u8; OUT]) -> Stream {
+fn end<'a>(done: Answered, stream: Stream<'a>, out: &mut [u8; OUT]) -> Stream<'a> {
     let mut at = done.at;
     if stream.with_state {
         at = stored::state(out, at, done.run.settings);
@@ -159,16 +159,16 @@ fn end(done: Answered, stream: Stream, out: &mut [u8; OUT]) -> Stream {
 
 // A run from its beginning, whose number is written, to the beginning of the next sequence or the end of the list. The calls are
 // counted down, as reads are.
-pub fn run(
+pub fn run<'a>(
     settings: Settings,
-    stream: Stream,
+    stream: Stream<'a>,
     kinds: &Kinds,
     input: &mut [u8; INPUT],
     line: &mut [u8; LONGER],
     values: &mut [u64; VALUES],
     bytes: &mut [u8; BYTES],
     out: &mut [u8; OUT],
-) -> Turn {
+) -> Turn<'a> {
     let mut done = begin(settings, values, out, stream.out);
     let mut turn = Turn::without_call(stream);
     let mut turns = u64::MAX;
