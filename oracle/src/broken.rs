@@ -132,16 +132,14 @@ fn comparable(text: &[u8]) -> Vec<u8> {
 #[derive(PartialEq)]
 pub struct Outcome {
     pub output: Vec<u8>,
-    /// The exit status that the script would have: a digit.
+    /// The exit status, which the script has too.
     pub status: String,
 }
 
 /// Runs a program with these words, as the script `replay` does.
 pub fn run(program: &OsStr, words: &[&str], text: &[u8]) -> io::Result<Outcome> {
-    let script = "exec 4>&1; status=$(\"$0\" --status \"$@\" 3>&1 >&4) || status=\"ended $?\"; printf 'status %s' \"$status\"";
-    let mut child = Command::new("sh")
-        .args(["-c", script])
-        .arg(program)
+    let mut child = Command::new(program)
+        .arg("--status")
         .args(words)
         .stdin(Stdio::piped())
         .stdout(Stdio::piped())
@@ -150,15 +148,16 @@ pub fn run(program: &OsStr, words: &[&str], text: &[u8]) -> io::Result<Outcome> 
     let text = text.to_vec();
     // A program that ends early closes the pipe; its output tells.
     let writer = thread::spawn(move || drop(input.write_all(&text)));
-    let mut output = child.wait_with_output()?.stdout;
+    let ended = child.wait_with_output()?;
     writer.join().expect("writing to the program");
-    let mark = b"status ";
-    let found = output.windows(mark.len()).rposition(|w| w == mark);
-    let place = found.unwrap_or(output.len());
-    let status = String::from_utf8_lossy(&output[place..]).into_owned();
-    output.truncate(place);
-    let status = status.trim_start_matches("status ").to_string();
-    Ok(Outcome { output, status })
+    let status = match ended.status.code() {
+        Some(code) => code.to_string(),
+        None => ended.status.to_string(),
+    };
+    Ok(Outcome {
+        output: ended.stdout,
+        status,
+    })
 }
 
 /// What the front end makes of it.

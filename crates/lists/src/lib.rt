@@ -4,22 +4,23 @@
 
 use reading::call::{Call, NO_CALLS, Sequence};
 use scanning::bytes::BYTES;
+use std::io::Stdout;
 use streams::next::{Turn, next};
-use streams::{Ended, INPUT, LONGER, Stream};
+use streams::{Ended, INPUT, LONGER, Source, Stream};
 use words::kinds::{KINDS, Kinds, VALUES};
 use writing::write::OUT;
 
 // Answers the calls of a sequence, up to the next that begins or the end of the list.
-fn run(
+fn run<'a>(
     sequence: Sequence,
-    stream: Stream,
+    stream: Stream<'a>,
     kinds: &Kinds,
     input: &mut [u8; INPUT],
     line: &mut [u8; LONGER],
     values: &mut [u64; VALUES],
     bytes: &mut [u8; BYTES],
     out: &mut [u8; OUT],
-) -> Turn {
+) -> Turn<'a> {
     match sequence {
         Sequence::Dsp => dsp_calls::run(stream, kinds, input, line, values, bytes, out),
         Sequence::Avr(model) => {
@@ -37,15 +38,15 @@ fn run(
 }
 
 // Answers a list.
-fn answer(
-    stream: Stream,
+fn answer<'a>(
+    stream: Stream<'a>,
     kinds: &Kinds,
     input: &mut [u8; INPUT],
     line: &mut [u8; LONGER],
     values: &mut [u64; VALUES],
     bytes: &mut [u8; BYTES],
     out: &mut [u8; OUT],
-) -> Stream {
+) -> Stream<'a> {
     let mut turn = next(stream, NO_CALLS, kinds, input, line, values, bytes, out);
     let mut turns = u64::MAX;
     while 0 < turns {
@@ -69,7 +70,7 @@ fn answer(
 }
 
 // Answers a whole list, with the stored states if they are asked for, and for people if it is to be shown to them; and how it ended.
-pub fn replay(fd: i32, with_state: bool, shown: bool) -> Ended {
+pub fn replay(source: Source<'_>, stdout: Stdout, with_state: bool, shown: bool) -> Ended {
     let kinds = KINDS;
     let mut input = [0u8; INPUT];
     let mut line = [0u8; LONGER];
@@ -77,7 +78,7 @@ pub fn replay(fd: i32, with_state: bool, shown: bool) -> Ended {
     let mut bytes = [0u8; BYTES];
     let mut out = [0u8; OUT];
     let stream = answer(
-        Stream::new(fd, with_state, shown),
+        Stream::new(source, stdout, with_state, shown),
         &kinds,
         &mut input,
         &mut line,

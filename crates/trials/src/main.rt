@@ -2,21 +2,24 @@
 // stdout, was written by the Rust (oracle/regenerate).
 #![tactic(auto)]
 
-use libc::STDOUT_FILENO;
+use std::fs::File;
+use std::io::Write;
+use streams::Source;
 
-fn run(path: &[u8], with_state: bool, shown: bool) {
-    let fd = os::open_read(path);
-    if fd < 0 {
-        io::write_all(STDOUT_FILENO, path);
-        io::write_all(STDOUT_FILENO, b" can't be opened\n");
-        return;
+fn run(rt: &HostRuntime, path: &str, with_state: bool, shown: bool) {
+    match File::open(rt, path) {
+        Ok(file) => {
+            lists::replay(Source::Opened(&file), rt.stdout(), with_state, shown);
+        }
+        Err(_) => {
+            let _ = rt.stdout().write_all(path.as_bytes());
+            let _ = rt.stdout().write_all(b" can't be opened\n");
+        }
     }
-    lists::replay(fd, with_state, shown);
-    libc::close(fd);
 }
 
-fn main() {
-    run(b"trials.list", false, false);
-    run(b"examples.list", false, true);
-    run(b"odd.list", true, true);
+fn main(rt: HostRuntime) {
+    run(&rt, "trials.list", false, false);
+    run(&rt, "examples.list", false, true);
+    run(&rt, "odd.list", true, true);
 }
