@@ -9,7 +9,7 @@ use lib.Dec.{eqb, ltb}
 use borrow.Author.Tests.{lt-ltb, le-ltb, ltb-true, ltb-false}
 use Rattle.protocol.specs.Addr.{byte_of}
 use Rattle.protocol.specs.Action.{no_action}
-use Rattle.sequence.specs.Events.{Envelope, Event, fed, plain}
+use Rattle.sequence.specs.Events.{Envelope, fed, plain}
 use Rattle.sequence.proofs.Arms.{at_idles}
 use Rattle.settings.specs.declared.AvrSettings.{AvrSettings}
 use Rattle.avr_config_steps.specs.declared.AvrConfigStep.{AvrConfigStep}

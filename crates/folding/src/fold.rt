@@ -33,11 +33,11 @@ fn visible(b: u8) -> u8 {
 
 // The columns that bytes take.
 pub fn columns(s: &[u8]) -> usize {
-    let mut n = 0;
+    let mut n: usize = 0;
     let mut i = 0;
     while i < s.len() {
         if takes_column(s[i]) {
-            n = std::num::wrapping_add_usize(n, 1);
+            n = n.wrapping_add(1);
         }
         i += 1;
     }

@@ -14,8 +14,8 @@ pub fn begins(s: &[u8], with: &[u8]) -> bool {
 
 // Behind the bar that ends a text. It begins behind the bar at `bar`, and its digits at `digits`.
 fn behind_bars(s: &[u8], digits: usize, bar: usize) -> usize {
-    let text = std::num::wrapping_sub_usize(bar, digits) / 2;
-    let end = std::num::wrapping_add_usize(std::num::wrapping_add_usize(bar, text), 2);
+    let text = bar.wrapping_sub(digits) / 2;
+    let end = bar.wrapping_add(text).wrapping_add(2);
     if end < s.len() {
         return end;
     }
@@ -50,7 +50,7 @@ pub fn part_end(s: &[u8], from: usize) -> usize {
         if byte_at(s, end) != b' ' {
             return end;
         }
-        at = std::num::wrapping_add_usize(end, 1);
+        at = end.wrapping_add(1);
         turns -= 1;
     }
     at
@@ -58,7 +58,7 @@ pub fn part_end(s: &[u8], from: usize) -> usize {
 
 // Where the next part begins behind one that ends here.
 pub fn next_part(end: usize) -> usize {
-    std::num::wrapping_add_usize(end, 2)
+    end.wrapping_add(2)
 }
 
 pub fn is_step(s: &[u8]) -> bool {

@@ -173,21 +173,21 @@ fn time_sync(values: &[u64; VALUES]) -> TimeSync {
 fn int_param(values: &[u64; VALUES], i: usize) -> ParamValue {
     ParamValue {
         param_id: byte(values, i),
-        value: ParamData::Int24(to_i32(at(values, std::num::wrapping_add_usize(i, 1)))),
+        value: ParamData::Int24(to_i32(at(values, i.wrapping_add(1)))),
     }
 }
 
 fn float_param(values: &[u64; VALUES], i: usize) -> ParamValue {
     ParamValue {
         param_id: byte(values, i),
-        value: ParamData::Float40(float(values, std::num::wrapping_add_usize(i, 1))),
+        value: ParamData::Float40(float(values, i.wrapping_add(1))),
     }
 }
 
 // A parameter of a settings run, by its number from 0.
 pub fn param(values: &[u64; VALUES], k: usize) -> ParamValue {
     let kind = place_of_param(k);
-    let first = std::num::wrapping_add_usize(kind, 1);
+    let first = kind.wrapping_add(1);
     if at(values, kind) == FLOAT40 as u64 {
         return float_param(values, first);
     }
@@ -197,7 +197,7 @@ pub fn param(values: &[u64; VALUES], k: usize) -> ParamValue {
 pub fn radar_cal(values: &[u64; VALUES], i: usize) -> RadarCal {
     RadarCal {
         range_mm: to_u16(at(values, i)),
-        height_mm: byte(values, std::num::wrapping_add_usize(i, 1)),
+        height_mm: byte(values, i.wrapping_add(1)),
     }
 }
 

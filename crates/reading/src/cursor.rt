@@ -30,7 +30,7 @@ pub struct Span {
 // Whether the span is the name that begins at a place of the names, and ends at a blank.
 pub fn is_name(line: &[u8], span: Span, names: &[u8], from: usize) -> bool {
     let word = part(line, span.from, span.to);
-    if !ends(names, std::num::wrapping_add_usize(from, word.len())) {
+    if !ends(names, from.wrapping_add(word.len())) {
         return false;
     }
     starts(names, from, word)
@@ -102,7 +102,7 @@ impl Cursor {
     // Behind these bytes, which stand next.
     pub fn past(self, line: &[u8], name: &[u8]) -> Cursor {
         let at = past_blanks(line, self.at);
-        self.to(std::num::wrapping_add_usize(at, name.len()))
+        self.to(at.wrapping_add(name.len()))
     }
 
     // Moves past the `NAME=` that stands at `from` of the names, and has to stand next. What is behind it there is answered too.
@@ -110,15 +110,15 @@ impl Cursor {
         let at = past_blanks(line, self.at);
         let form = named(line, at, names, from, b'=');
         if form == 0 {
-            let why = std::num::wrapping_add_usize(reasons::EXPECTED, from);
+            let why = reasons::EXPECTED.wrapping_add(from);
             return Named {
                 c: self.fail(at, why),
                 form: form,
             };
         }
-        let passed = std::num::wrapping_sub_usize(form, from);
+        let passed = form.wrapping_sub(from);
         Named {
-            c: self.to(std::num::wrapping_add_usize(at, passed)),
+            c: self.to(at.wrapping_add(passed)),
             form: form,
         }
     }

@@ -37,7 +37,7 @@ impl Cursor {
             b'b' => self.boolean(line),
             b'f' => self.float(line),
             _ => {
-                let size = byte_at(kinds, std::num::wrapping_add_usize(at, 1));
+                let size = byte_at(kinds, at.wrapping_add(1));
                 self.number_here(line, limit_of(kind, size))
             }
         }
@@ -94,7 +94,7 @@ impl Cursor {
                 return c.fail(self.at, reasons::NOT_34);
             }
             if more {
-                c = c.to(std::num::wrapping_add_usize(c.at, 1));
+                c = c.to(c.at.wrapping_add(1));
             }
         }
         c

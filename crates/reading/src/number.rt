@@ -85,7 +85,7 @@ impl Cursor {
 
     pub fn float(self, line: &[u8]) -> Number {
         let from = self.at;
-        let d = hexadecimal(line, std::num::wrapping_add_usize(from, 2));
+        let d = hexadecimal(line, from.wrapping_add(2));
         let mut c = self.to(d.to);
         if !is_float(line, from, d.to) {
             c = self.fail(from, reasons::NOT_A_FLOAT);

@@ -28,7 +28,7 @@ impl Cursor {
         let formed = self.form(line, kinds, kinds::PARAM_VALUE);
         let kind = formed.kind;
         store(values, at, kind as u64);
-        let first = std::num::wrapping_add_usize(at, 1);
+        let first = at.wrapping_add(1);
         self.fields(line, kinds, kind, values, first)
     }
 

@@ -35,13 +35,13 @@ fn joined(high: u8, low: u8) -> u8 {
 }
 
 fn escape(line: &[u8], at: usize) -> Symbol {
-    let mark = byte_at(line, std::num::wrapping_add_usize(at, 1));
+    let mark = byte_at(line, at.wrapping_add(1));
     let mut next = at;
     if mark == b'x' {
-        let high = byte_at(line, std::num::wrapping_add_usize(at, 2));
-        let low = byte_at(line, std::num::wrapping_add_usize(at, 3));
+        let high = byte_at(line, at.wrapping_add(2));
+        let low = byte_at(line, at.wrapping_add(3));
         if wrong(high) | wrong(low) == 0 {
-            next = std::num::wrapping_add_usize(at, 4);
+            next = at.wrapping_add(4);
         }
         return Symbol {
             byte: joined(high, low),
@@ -49,7 +49,7 @@ fn escape(line: &[u8], at: usize) -> Symbol {
         };
     }
     if mark == b'"' || mark == b'\\' {
-        next = std::num::wrapping_add_usize(at, 2);
+        next = at.wrapping_add(2);
     }
     Symbol {
         byte: mark,
@@ -98,11 +98,7 @@ fn text(line: &[u8], from: usize, bytes: &mut [u8; BYTES], at: usize) -> Got {
             i += 1;
         }
     }
-    answer(
-        end,
-        std::num::wrapping_sub_usize(from, 1),
-        reasons::NOT_CLOSED,
-    )
+    answer(end, from.wrapping_sub(1), reasons::NOT_CLOSED)
 }
 
 // Where the first byte of `s` stands that is no digit.
@@ -142,11 +138,7 @@ fn pairs(s: &[u8], bytes: &mut [u8; BYTES], at: usize) -> u8 {
 fn bad_hex(s: &[u8], from: usize, end: usize) -> Got {
     let first = first_wrong(s);
     if first < s.len() {
-        return answer(
-            end,
-            std::num::wrapping_add_usize(from, first),
-            reasons::NOT_HEX,
-        );
+        return answer(end, from.wrapping_add(first), reasons::NOT_HEX);
     }
     answer(end, from, reasons::ODD_HEX)
 }
@@ -155,7 +147,7 @@ fn hex(line: &[u8], from: usize, bytes: &mut [u8; BYTES], at: usize) -> Got {
     let to = past_long_word(line, from);
     let s = part(line, from, to);
     let count = s.len() / 2;
-    let end = std::num::wrapping_add_usize(at, count);
+    let end = at.wrapping_add(count);
     let any = pairs(s, bytes, at);
     if any == 0 && s.len() % 2 == 0 {
         return answer(end, to, reasons::NONE);
@@ -166,7 +158,7 @@ fn hex(line: &[u8], from: usize, bytes: &mut [u8; BYTES], at: usize) -> Got {
 // The bytes that begin at `from` of the line, stored from `at` on.
 pub fn read(line: &[u8], from: usize, bytes: &mut [u8; BYTES], at: usize) -> Got {
     if byte_at(line, from) == b'"' {
-        return text(line, std::num::wrapping_add_usize(from, 1), bytes, at);
+        return text(line, from.wrapping_add(1), bytes, at);
     }
     hex(line, from, bytes, at)
 }

@@ -114,7 +114,7 @@ pub fn named(line: &[u8], at: usize, names: &[u8], from: usize, mark: u8) -> usi
         if byte_at(line, i) != b {
             return 0;
         }
-        i = std::num::wrapping_add_usize(i, 1);
+        i = i.wrapping_add(1);
         k += 1;
         if b == mark {
             return k;

@@ -24,9 +24,9 @@ pub fn digit(b: u8) -> u8 {
 
 // 0 for a hexadecimal digit, and 1 for any other byte.
 pub fn wrong(b: u8) -> u8 {
-    let ten = std::num::wrapping_sub_u8(b, b'0');
+    let ten = b.wrapping_sub(b'0');
     // small letters have this bit more than capitals
-    let letter = std::num::wrapping_sub_u8(b | 0x20, b'a');
+    let letter = (b | 0x20).wrapping_sub(b'a');
     ((9 < ten) as u8) & ((5 < letter) as u8)
 }
 
@@ -45,7 +45,7 @@ pub fn decimal(line: &[u8], from: usize) -> Digits {
     let mut large = false;
     let mut i = from;
     while i < line.len() {
-        let digit = std::num::wrapping_sub_u8(line[i], b'0');
+        let digit = line[i].wrapping_sub(b'0');
         if 9 < digit {
             return written(from, i, large, value);
         }
@@ -92,7 +92,7 @@ pub fn in_range(d: Digits, negative: bool, most: u64) -> bool {
         return false;
     }
     if negative {
-        return d.value <= std::num::wrapping_add_u64(most, 1);
+        return d.value <= most.wrapping_add(1);
     }
     d.value <= most
 }
@@ -107,17 +107,17 @@ pub fn is_negative(line: &[u8], at: usize, signed: bool) -> bool {
 // A number without its sign.
 pub fn magnitude(line: &[u8], at: usize, negative: bool) -> Digits {
     if negative {
-        return decimal(line, std::num::wrapping_add_usize(at, 1));
+        return decimal(line, at.wrapping_add(1));
     }
     if starts(line, at, b"0x") {
-        return hexadecimal(line, std::num::wrapping_add_usize(at, 2));
+        return hexadecimal(line, at.wrapping_add(2));
     }
     decimal(line, at)
 }
 
 pub fn signed(value: u64, negative: bool) -> u64 {
     if negative {
-        return std::num::wrapping_sub_u64(0, value);
+        return 0u64.wrapping_sub(value);
     }
     value
 }
@@ -134,7 +134,7 @@ pub fn number_ends(line: &[u8], at: usize, in_list: bool) -> bool {
 
 // Whether what stands from one place to another is a word of 16 digits after `0x`.
 pub fn is_float(line: &[u8], from: usize, to: usize) -> bool {
-    if to != std::num::wrapping_add_usize(from, 18) {
+    if to != from.wrapping_add(18) {
         return false;
     }
     if !starts(line, from, b"0x") {

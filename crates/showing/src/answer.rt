@@ -172,7 +172,7 @@ pub fn lay(shown: Shown, out: &mut [u8; OUT], at: usize, plain: &[u8]) -> Laid {
     let mut next = shown;
     next.row = row;
     if begins(plain, b"refused ") {
-        next.refused = std::num::wrapping_add_u64(shown.refused, 1);
+        next.refused = shown.refused.wrapping_add(1);
     }
     Laid {
         shown: next,

@@ -93,15 +93,11 @@ fn least(a: usize, b: usize) -> usize {
 
 // The row of bytes from a place on. From the second on its text stands below that of the first.
 fn row(out: &mut [u8; OUT], at: usize, digits: &[u8], text: &[u8], from: usize) -> usize {
-    let to = least(std::num::wrapping_add_usize(from, ROW), text.len());
-    let two = std::num::wrapping_add_usize(from, from);
-    let mut end = pairs(
-        out,
-        at,
-        part(digits, two, std::num::wrapping_add_usize(to, to)),
-    );
+    let to = least(from.wrapping_add(ROW), text.len());
+    let two = from.wrapping_add(from);
+    let mut end = pairs(out, at, part(digits, two, to.wrapping_add(to)));
     if 0 < from {
-        let width = std::num::wrapping_sub_usize(std::num::wrapping_add_usize(from, ROW), to) % ROW;
+        let width = from.wrapping_add(ROW).wrapping_sub(to) % ROW;
         end = fold::blanks(out, end, width * 3);
     }
     end = write::text(out, end, b" |");
@@ -122,7 +118,7 @@ fn bytes(out: &mut [u8; OUT], at: usize, digits: &[u8], text: &[u8]) -> usize {
             end = fold::blanks(out, end, VALUE);
         }
         end = row(out, end, digits, text, from);
-        from = std::num::wrapping_add_usize(from, ROW);
+        from = from.wrapping_add(ROW);
         turns -= 1;
     }
     end
@@ -172,14 +168,8 @@ fn head(out: &mut [u8; OUT], at: usize, indent: usize, name: &[u8]) -> usize {
 
 // The value of a field whose line begins at `start` and has its name already.
 fn tail(out: &mut [u8; OUT], at: usize, start: usize, name: &[u8], given: &[u8]) -> usize {
-    let end = to_value(out, at, std::num::wrapping_sub_usize(at, start));
-    value(
-        out,
-        end,
-        name,
-        given,
-        std::num::wrapping_sub_usize(end, start),
-    )
+    let end = to_value(out, at, at.wrapping_sub(start));
+    value(out, end, name, given, end.wrapping_sub(start))
 }
 
 fn field(out: &mut [u8; OUT], at: usize, indent: usize, name: &[u8], given: &[u8]) -> usize {
@@ -235,9 +225,9 @@ pub fn words(out: &mut [u8; OUT], at: usize, s: &[u8]) -> usize {
         let next = part(s, from, to);
         end = word(out, end, next, infos);
         if begins(next, b"prod_info=") {
-            infos = std::num::wrapping_add_usize(infos, 1);
+            infos = infos.wrapping_add(1);
         }
-        from = std::num::wrapping_add_usize(to, 1);
+        from = to.wrapping_add(1);
         turns -= 1;
     }
     end

@@ -52,7 +52,7 @@ impl Shown {
     // With one more call.
     pub fn called(self) -> Shown {
         let mut next = self;
-        next.calls = std::num::wrapping_add_u64(self.calls, 1);
+        next.calls = self.calls.wrapping_add(1);
         next.begins = false;
         next.fed = false;
         next
@@ -77,7 +77,7 @@ impl Shown {
     // With one more line that can't be read.
     pub fn unread(self) -> Shown {
         let mut next = self;
-        next.bad_lines = std::num::wrapping_add_u64(self.bad_lines, 1);
+        next.bad_lines = self.bad_lines.wrapping_add(1);
         next
     }
 }

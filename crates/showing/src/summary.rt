@@ -40,13 +40,7 @@ fn last(sequences: &[u8], shown: Shown, out: &mut [u8; OUT], at: usize) -> usize
     end = write::text(out, end, b" is not done: ");
     end = write::text(out, end, tables::key_at(sequences, shown.row));
     end = write::text(out, end, b" waits for ");
-    fold::rest(
-        out,
-        end,
-        awaited,
-        std::num::wrapping_sub_usize(end, at),
-        HANG,
-    )
+    fold::rest(out, end, awaited, end.wrapping_sub(at), HANG)
 }
 
 // Sums a list up.

@@ -40,7 +40,7 @@ pub fn find(s: &[u8], at: usize, b: u8) -> usize {
 
 // The place behind a byte.
 pub fn behind(s: &[u8], at: usize, b: u8) -> usize {
-    std::num::wrapping_add_usize(find(s, at, b), 1)
+    find(s, at, b).wrapping_add(1)
 }
 
 // Where the name of a number begins, from 0, in names that each end before `b`.

@@ -33,7 +33,7 @@ fn magnitude(n: i64) -> u64 {
 fn complement(n: i64) -> u64 {
     let value = magnitude(n);
     if n < 0 {
-        return std::num::wrapping_sub_u64(0, value);
+        return 0u64.wrapping_sub(value);
     }
     value
 }
@@ -153,9 +153,9 @@ pub fn numbers(
         }
         let to = find(layout, place, b':');
         end = name(out, end, part(layout, place, to));
-        let form = byte_at(layout, std::num::wrapping_add_usize(to, 1));
+        let form = byte_at(layout, to.wrapping_add(1));
         end = value(out, end, form, at(values, k));
-        place = std::num::wrapping_add_usize(to, 3);
+        place = to.wrapping_add(3);
         k += 1;
     }
     end

@@ -176,7 +176,7 @@ pub fn ticked(before: usize, after: usize) -> usize {
     if before == after {
         return 0;
     }
-    std::num::wrapping_add_usize(before, 1)
+    before.wrapping_add(1)
 }
 
 fn entry(out: &mut [u8; OUT], at: usize, entry: usize) -> usize {

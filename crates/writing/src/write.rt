@@ -133,7 +133,7 @@ pub fn signed(out: &mut [u8; OUT], at: usize, n: u64) -> usize {
         return decimal(out, at, n);
     }
     let end = byte(out, at, b'-');
-    decimal(out, end, std::num::wrapping_sub_u64(0, n))
+    decimal(out, end, 0u64.wrapping_sub(n))
 }
 
 // One of the texts, from 0, that each end before `b`.

@@ -1,9 +1,0 @@
--- `messages::to_i32` is safe. Assumes nothing.
-use Rattle.words.proofs.Values.{down_fits}
-use Rattle.std.proofs.Common.{rules}
-use Rattle.messages.proofs.to_i32.Statement.{statement}
-use Rattle.messages.proofs.to_i32.Tie as tie
-
-pub to_i32_spec : {M : Type 1} → statement M
-to_i32_spec =
-    tie.close (tie.spec (λ c. search rules) (λ c. search rules) (λ c. search rules) (λ c. search rules) (λ c. down_fits _ _ c.if2.true) (λ c. search rules) (λ c. search rules))
