@@ -1,5 +1,0 @@
-pub mod Handed
-pub mod Walks
-pub mod Numbers
-pub mod Unpacked
-pub mod Unread
