@@ -6,7 +6,7 @@ use std::path::{Path, PathBuf};
 const FOLDER: &str = "WIGTALOM_LIB_DIR";
 
 /// How the library is made.
-const MADE_BY: &str = "`rt staticlib host` at the repository's root makes it";
+const MADE_BY: &str = "`rt lib` in crates/host makes it";
 
 fn main() {
     let folder = folder();
@@ -25,6 +25,6 @@ fn main() {
 fn folder() -> PathBuf {
     match env::var_os(FOLDER) {
         Some(folder) => folder.into(),
-        None => Path::new(env!("CARGO_MANIFEST_DIR")).join("../target/staticlib"),
+        None => Path::new(env!("CARGO_MANIFEST_DIR")).join("../crates/host/out"),
     }
 }

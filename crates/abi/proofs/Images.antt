@@ -3,11 +3,12 @@
 -- Assumes nothing.
 use mathlib.Core.Path.{◌≡◌, refl, sym, ap, ◌∙◌}
 use mathlib.Core.Bool.{and-true, and_assoc, ◌&&◌}
-use mathlib.Core.List.{List, [], ◌∷◌, map}
+use mathlib.Core.List.{List, [], ◌∷◌, map, append-nil}
 use Prim.Native.Nat.{ℕ, zero, suc, ◌+◌, ◌<◌}
 use native.Mathlib.Numerals.{add-one}
 use native.Mathlib.Omega.{arith}
 use lib.ListN.{length, get_or, set, take, length-map, get_or-map}
+use lib.Seq.{take_all}
 use Rattle.protocol.proofs.Filled.{filled, more}
 use Rattle.abi_values.specs.declared.CParamValue.{CParamValue}
 use Rattle.abi_values.specs.Params.{param_in}
@@ -25,6 +26,12 @@ image f n z xs i d h k =
     let there : length (map f xs) ≡ length xs = length-map xs f in
     ap (λ v. set (filled n z (map f xs) i) i v) (sym (get_or-map f xs i d) ∙ within (map f xs) i (f d) z (omega arith))
     ∙ more n z (map f xs) i (omega arith) k
+
+-- all of them
+pub images : {A B : Type 0} (f : A → B) (z : B) (xs : List A) → length xs ≡ 32 → filled 32 z (map f xs) 32 ≡ map f xs
+images f z xs h =
+    let there : length (map f xs) ≡ length xs = length-map xs f in
+    rw (append-nil (take 32 (map f xs))) (take_all 32 (map f xs) (omega arith))
 
 -- one more format
 pub known_more : (ps : List CParamValue) (i : ℕ) (d : CParamValue) → i < length ps

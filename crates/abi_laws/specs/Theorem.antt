@@ -4,7 +4,6 @@
 use Rattle.std.specs.Prelude.{ℕ, ◌≡◌, true, List, [], ◌∷◌, get_or}
 use Rattle.protocol.specs.declared.BusAddr.{BusAddr}
 use Rattle.protocol.specs.declared.CamConfig.{CamConfig}
-use Rattle.protocol.specs.declared.ModeSet.{ModeSet}
 use Rattle.protocol.specs.declared.ParamValue.{ParamValue}
 use Rattle.protocol.specs.declared.RadarCal.{RadarCal}
 use Rattle.protocol.specs.declared.DspQueryResp.{DspQueryResp}

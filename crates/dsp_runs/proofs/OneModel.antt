@@ -193,7 +193,7 @@ pub agreed : (m : DeviceModel) (cs : List DspCall) → Each (Says m) (run cs) �
 agreed m cs h ps f =
     let x = f.matching in
     ap (λ (qs : List ℕ). model_of (payload_in (get_or (map (λ p. get_or (run cs) p nil) qs) 2 nil))) (spelled 0 ps 3 x.one)
-    ∙ says m _ (get_or (run cs) (get_or ps 2 0) nil) (each_at (Says m) (run cs) (get_or ps 2 0) nil h (x.inside 2 (omega (arith, x.one)))) (x.passes 2 (omega arith))
+    ∙ says m 0 (get_or (run cs) (get_or ps 2 0) nil) (each_at (Says m) (run cs) (get_or ps 2 0) nil h (x.inside 2 (omega (arith, x.one)))) (x.passes 2 (omega arith))
 
 -- is entry 3 awaited at this step?
 abbrev awaits : DspStep → Bool
@@ -265,7 +265,7 @@ module _ (m : DeviceModel) (cs : List DspCall) (n : Names m cs) where
       let now : event t c ≡ e ∷ [] = rw (ap (λ (s : DspSequencer). s.last) is) at own in
       let runs : run cs ≡ run pre ++ e ∷ events reading event (reading e) post = ap run q ∙ events-append reading event 0 pre (c ∷ post) ∙ rw now in
       let two = third m (length (tickedIn reading (table m) (run pre))) (sym (ap (λ (s : DspSequencer). s.state.step) is) ∙ i) in
-      names (run pre) _ (tickedIn reading (table m) (run pre)) e runs refl two (sym (passes_tests _ _ e) ∙ p)
+      names (run pre) _ (tickedIn reading (table m) (run pre)) e runs refl two (sym (passes_tests (after_all after begun.seq pre).state.deadline t e) ∙ p)
 
   step : (pre : List DspCall) (c : DspCall) (post : List DspCall) → cs ≡ pre ++ c ∷ post → Agrees pre → Agrees (pre ++ c ∷ [])
   step pre c post q w =

@@ -1,5 +1,1 @@
-pub mod Handed
-pub mod Walks
-pub mod Numbers
-pub mod Unpacked
 pub mod Unread

@@ -1,7 +1,8 @@
 -- What no step looks at: an answer is the same for an envelope without its numbers.
 -- Assumes nothing.
 use mathlib.Core.Path.{◌≡◌, refl}
-use mathlib.Core.Bool.{false}
+use mathlib.Core.Bool.{Bool, true, false}
+use mathlib.Core.List.{[]}
 use Rattle.disarm.specs.declared.DisarmSequencer.{DisarmSequencer}
 use Rattle.disarm.specs.declared.DisarmStep.{DisarmStep}
 use Rattle.disarm.specs.declared.DisarmStep.TheVariants as D
@@ -21,7 +22,11 @@ use Rattle.pi.specs.Answers as pis
 use Rattle.sequence.specs.Events as events
 use Rattle.envelope.specs.Lent.{lent}
 use Rattle.envelope.specs.declared.Envelope.{Envelope}
-use Rattle.envelope.proofs.Unpacked.{told}
+
+-- what the sequencer's feed is told of it: with the numbers, or without
+abbrev pub told : Bool → Envelope → events.Envelope
+told true e = record { src = e.src; type_id = e.type_id; message = e.message; params = e.params; text = e.text.now; payload = e.payload.now }
+told false e = record { src = e.src; type_id = e.type_id; message = e.message; params = []; text = e.text.now; payload = e.payload.now }
 
 -- the answer is the same
 abbrev Same : {X : Type 0} → (events.Envelope → X) → Envelope → Type 0

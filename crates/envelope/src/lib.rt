@@ -1,5 +1,5 @@
 // A decoded envelope that refers to the lent bytes (src/frame.rs's Envelope without `raw`), and each sequence's feed with one. A function here
-// takes it apart and calls the sequence's own feed. The borrow checker covers none of them: each is proved by a walk.
+// takes it apart and calls the sequence's own feed. Each is proved from that feed's contract, without a proof file.
 #![tactic(auto)]
 
 ghost use Rattle.std.specs.Prelude.{◌≡◌};

@@ -1,5 +1,5 @@
 // The host's library: every call of the six sequences, the model and the single sends, as functions that C or Rust can link
-// (`rt staticlib host`). Each answers as the call that it stands for; numbers that no case has are refused with 21, which sends nothing and
+// (`rt lib`). Each answers as the call that it stands for; numbers that no case has are refused with 21, which sends nothing and
 // changes nothing.
 #![tactic(auto)]
 
