@@ -235,7 +235,7 @@ fn next_of(table: &str) -> BTreeSet<(String, String)> {
         };
         let left = left.trim_start_matches("next ");
         let from = step_of(left).or_else(|| step_of(left.split_once(' ')?.1));
-        let right = right.replace("paramStep s", "(WaitParamAck i) WaitModeEcho");
+        let right = right.replace("param_step s", "(WaitParamAck i) WaitModeEcho");
         for word in right.split([' ', '(', ')']).filter_map(step_of) {
             pairs.insert((from.clone().expect(line), word));
         }
