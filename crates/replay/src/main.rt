@@ -1,13 +1,13 @@
 // replay [--show] [--state] [--status] [FILE]: writes what each call of a list answers, as docs/REPLAY.md says. Messages go to standard error. With
-// --status it ends with its exit status, and writes that to descriptor 3 too, if one is open; else it ends with 0.
+// --status it ends with its exit status, and writes that to descriptor 3 too, if one is open for writing; else it ends with 0.
 #![tactic(auto)]
 
 use std::env::{Env, FillError};
 use std::fs::{File, OpenOptions};
-use std::io::{Error, Write};
+use std::io::{Error, Read, Write};
 use std::process::ExitCode;
 use streams::{Ended, Source};
-use words::{find, part};
+use words::{byte_at, find, part};
 
 // The bytes that an argument may have.
 const WORD: usize = 4_096;
@@ -184,8 +184,27 @@ fn run(rt: &HostRuntime, task: Task) -> u8 {
     replay_file(rt, task.file, task.with_state, task.shown)
 }
 
-// Writes the status as a digit to descriptor 3, if one is open.
+// Whether descriptor 3 is open for writing. What the system says of it has in its second line the octal flags, whose last digit says so.
+fn is_heard(rt: &HostRuntime) -> bool {
+    let mut text = [0u8; 256];
+    let n = match File::open(rt, "/proc/self/fdinfo/3") {
+        Ok(file) => {
+            let mut reader = &file;
+            reader.read(&mut text).unwrap_or(0)
+        }
+        Err(_) => 0,
+    };
+    let said = part(&text, 0, n);
+    let second = find(said, 0, b'\n').saturating_add(1);
+    let end = find(said, second, b'\n');
+    byte_at(said, end.saturating_sub(1)) % 4 != 0
+}
+
+// Writes the status as a digit to descriptor 3, if one is open for writing.
 fn tell(rt: &HostRuntime, status: u8) {
+    if !is_heard(rt) {
+        return;
+    }
     let mut how = OpenOptions::new();
     how.read(true).append(true);
     if let Ok(opened) = how.open(rt, "/dev/fd/3") {
