@@ -1,44 +1,37 @@
--- A place within a list does not depend on what stands for those past it; an array that is filled with the images of a list; and whether
--- all formats up to a place are known.
+-- The images of a list, place by place; and the parameters of a list, which are known if each is.
 -- Assumes nothing.
-use mathlib.Core.Path.{◌≡◌, refl, sym, ap, ◌∙◌}
-use mathlib.Core.Bool.{and-true, and_assoc, ◌&&◌}
-use mathlib.Core.List.{List, [], ◌∷◌, map, append-nil}
-use Prim.Native.Nat.{ℕ, zero, suc, ◌+◌, ◌<◌}
-use native.Mathlib.Numerals.{add-one}
-use native.Mathlib.Omega.{arith}
-use lib.ListN.{length, get_or, set, take, length-map, get_or-map}
-use lib.Seq.{take_all}
-use Rattle.protocol.proofs.Filled.{filled, more}
+use Rattle.std.proofs.Common.{◌≡◌, refl, ℕ, zero, suc, ◌<◌, length, arith, List, [], ◌∷◌, Result, Ok, Err, slice_index_or}
+use mathlib.Core.List.{map}
+use Rattle.std.specs.List.{AllZip}
+use Rattle.protocol.specs.declared.ParamValue.{ParamValue}
 use Rattle.abi_values.specs.declared.CParamValue.{CParamValue}
+use Rattle.abi_values.specs.declared.UnknownNumber.{UnknownNumber}
+use Rattle.abi_values.specs.Numbers.{and_then}
 use Rattle.abi_values.specs.Params.{param_in}
-use Rattle.abi.specs.Settings.{all_known}
+use Rattle.abi.specs.Settings.{params_in}
 
-pub within : {A : Type 0} (xs : List A) (n : ℕ) (d d' : A) → n < length xs → get_or xs n d ≡ get_or xs n d'
-within [] n d d' h = absurd (omega arith)
-within (x ∷ xs) zero d d' h = refl
-within (x ∷ xs) (suc n) d d' h = within xs n d d' (omega arith)
+pub images : {A B : Type 0} (f : A → B) (xs : List A) (ys : List B) (n : ℕ) → length xs ≡ n → length ys ≡ n
+    → ((i : ℕ) (d : A) (e : B) → i < n → slice_index_or ys i e ≡ f (slice_index_or xs i d)) → ys ≡ map f xs
+images f [] [] n h k at = refl
+images f [] (y ∷ ys) n h k at = absurd (omega arith)
+images f (x ∷ xs) [] n h k at = absurd (omega arith)
+images f (x ∷ xs) (y ∷ ys) zero h k at = absurd (omega arith)
+images f (x ∷ xs) (y ∷ ys) (suc n) h k at =
+    rw (at 0 x y (omega arith), images f xs ys n (omega arith) (omega arith) (λ i d e m. at (suc i) d e (omega arith)))
 
--- one more image
-pub image : {A B : Type 0} (f : A → B) (n : ℕ) (z : B) (xs : List A) (i : ℕ) (d : A) → i < length xs → i < n
-    → set (filled n z (map f xs) i) i (f (get_or xs i d)) ≡ filled n z (map f xs) (i + 1)
-image f n z xs i d h k =
-    let there : length (map f xs) ≡ length xs = length-map xs f in
-    ap (λ v. set (filled n z (map f xs) i) i v) (sym (get_or-map f xs i d) ∙ within (map f xs) i (f d) z (omega arith))
-    ∙ more n z (map f xs) i (omega arith) k
+pub all_in : (R : CParamValue → ParamValue → Type 0) → ((p : CParamValue) (q : ParamValue) → R p q → param_in p ≡ Ok q)
+    → (ps : List CParamValue) (qs : List ParamValue) → AllZip R ps qs → params_in ps ≡ Ok qs
+all_in R f [] [] h = refl
+all_in R f [] (q ∷ qs) h = elim h [ ]
+all_in R f (p ∷ ps) [] h = elim h [ ]
+all_in R f (p ∷ ps) (q ∷ qs) h = rw (f p q h.0, all_in R f ps qs h.1)
 
--- all of them
-pub images : {A B : Type 0} (f : A → B) (z : B) (xs : List A) → length xs ≡ 32 → filled 32 z (map f xs) 32 ≡ map f xs
-images f z xs h =
-    let there : length (map f xs) ≡ length xs = length-map xs f in
-    rw (append-nil (take 32 (map f xs))) (take_all 32 (map f xs) (omega arith))
-
--- one more format
-pub known_more : (ps : List CParamValue) (i : ℕ) (d : CParamValue) → i < length ps
-    → all_known (take i ps) && (param_in (get_or ps i d)).known ≡ all_known (take (i + 1) ps)
-known_more ps i d h = rw (add-one) (go ps i h)
+pub one_unknown : (ps : List CParamValue) (i : ℕ) (d : CParamValue) (e : UnknownNumber) → i < length ps → param_in (slice_index_or ps i d) ≡ Err e
+    → params_in ps ≡ Err e
+one_unknown [] i d e h k = absurd (omega arith)
+one_unknown (p ∷ ps) zero d e h k = rw k
+one_unknown (p ∷ ps) (suc i) d e h k = go (param_in p) (one_unknown ps i d e (omega arith) k)
   where
-    go : (qs : List CParamValue) (j : ℕ) → j < length qs → all_known (take j qs) && (param_in (get_or qs j d)).known ≡ all_known (take (suc j) qs)
-    go [] j k = absurd (omega arith)
-    go (q ∷ qs) zero k = sym (and-true (param_in q).known)
-    go (q ∷ qs) (suc j) k = and_assoc (param_in q).known (all_known (take j qs)) (param_in (get_or qs j d)).known ∙ ap (λ b. (param_in q).known && b) (go qs j (omega arith))
+    go : (r : Result ParamValue UnknownNumber) → params_in ps ≡ Err e → and_then r (λ q. and_then (params_in ps) (λ qs. Ok (q ∷ qs))) ≡ Err e
+    go (Ok q) m = rw m
+    go (Err u) m = refl

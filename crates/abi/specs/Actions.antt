@@ -1,8 +1,9 @@
--- A send as numbers: a command by its place in the enum, with what it carries. Definitions only.
+-- A send, or none, as numbers: a command by its place in the enum, with what it carries. Definitions only.
 -- Assumes nothing.
-use Rattle.std.specs.Prelude.{ℕ, Bool, false, ℤ}
+use Rattle.std.specs.Prelude.{ℕ, Bool, true, false, Option, Some, None, ℤ, replicate}
 use Rattle.std.specs.Float.{binary64}
 use Rattle.std.specs.Float.Ieee.{of_bits}
+use Rattle.protocol.specs.declared.BusAddr.{BusAddr}
 use Rattle.protocol.specs.declared.Command.{Command}
 use Rattle.protocol.specs.declared.Command.TheVariants as Cmd
 use Rattle.protocol.specs.declared.Action.{Action}
@@ -37,5 +38,10 @@ command_out (Cmd.TimeSync c) = numbers 14 false c.session 0 c.epoch
 command_out Cmd.CamConfigReq = numbers 15 false 0 0 0
 command_out (Cmd.ConfigAck c) = numbers 16 false c.bus_addr c.acked_cmd 0
 
-abbrev pub action_out : Action → CAction
-action_out a = record { some = a.some; command = command_out a.command; dest = byte_of a.dest; payload = a.payload; tail = a.tail }
+-- no send: each number is 0, and the device the app
+abbrev pub nothing : CAction
+nothing = record { some = false; command = numbers 0 false 0 0 0; dest = byte_of BusAddr.App; payload = replicate 10 0; tail = replicate 2 0 }
+
+abbrev pub action_out : Option Action → CAction
+action_out (Some a) = record { some = true; command = command_out a.command; dest = byte_of a.dest; payload = a.payload; tail = a.tail }
+action_out None = nothing

@@ -1,30 +1,35 @@
--- Settings with their parameters as numbers, and back: all 32 places, counted or not. Definitions only.
+-- Settings with their parameters as numbers, and back: all 32 places, counted or not. Beside an absent calibration stands one of zeros on
+-- the way out; on the way in what stands there is not looked at. Definitions only.
 -- Assumes nothing.
-use Rattle.std.specs.Prelude.{Bool, true, ◌&&◌, List, [], ◌∷◌, map}
+use Rattle.std.specs.Prelude.{true, false, Option, Some, None, Result, Ok, List, [], ◌∷◌, map}
 use Rattle.protocol.specs.declared.ParamValue.{ParamValue}
+use Rattle.protocol.specs.declared.RadarCal.{RadarCal}
 use Rattle.settings.specs.declared.AvrSettings.{AvrSettings}
 use Rattle.abi_values.specs.declared.CParamValue.{CParamValue}
+use Rattle.abi_values.specs.declared.UnknownNumber.{UnknownNumber}
+use Rattle.abi_values.specs.Numbers.{and_then}
+use Rattle.abi_values.specs.Options.{present}
 use Rattle.abi_values.specs.Params.{param_in, param_out}
+use Rattle.abi.specs.declared.config.COptionRadarCal.{COptionRadarCal}
 use Rattle.abi.specs.declared.config.CSettings.{CSettings}
-use Rattle.abi.specs.declared.config.SomeParams.{SomeParams}
-use Rattle.abi.specs.declared.config.SomeSettings.{SomeSettings}
 
--- the format of each is known
-abbrev pub all_known : List CParamValue → Bool
-all_known [] = true
-all_known (p ∷ ps) = (param_in p).known && all_known ps
+abbrev pub radar_cal_in : COptionRadarCal → Option RadarCal
+radar_cal_in c = present c.some c.value
 
-abbrev pub params_in : List CParamValue → SomeParams
-params_in ps = record { known = all_known ps; value = map (λ (p : CParamValue). (param_in p).value) ps }
+abbrev pub radar_cal_out : Option RadarCal → COptionRadarCal
+radar_cal_out (Some c) = record { some = true; value = c }
+radar_cal_out None = record { some = false; value = record { range_mm = 0; height_mm = 0 } }
+
+-- known if the format of each is
+abbrev pub params_in : List CParamValue → Result (List ParamValue) UnknownNumber
+params_in [] = Ok []
+params_in (p ∷ ps) = and_then (param_in p) (λ q. and_then (params_in ps) (λ qs. Ok (q ∷ qs)))
 
 abbrev pub params_out : List ParamValue → List CParamValue
 params_out ps = map param_out ps
 
-abbrev pub settings_in : CSettings → SomeSettings
-settings_in s = record {
-  known = all_known s.params;
-  value = record { mode = s.mode; params = (params_in s.params).value; len = s.len; radar_cal = s.radar_cal };
-}
+abbrev pub settings_in : CSettings → Result AvrSettings UnknownNumber
+settings_in s = and_then (params_in s.params) (λ ps. Ok (record { mode = s.mode; params = ps; len = s.len; radar_cal = radar_cal_in s.radar_cal }))
 
 abbrev pub settings_out : AvrSettings → CSettings
-settings_out s = record { mode = s.mode; params = params_out s.params; len = s.len; radar_cal = s.radar_cal }
+settings_out s = record { mode = s.mode; params = params_out s.params; len = s.len; radar_cal = radar_cal_out s.radar_cal }

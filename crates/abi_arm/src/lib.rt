@@ -1,9 +1,10 @@
-// An arm as a host holds it. A state with a number that no case has is told as not known.
+// An arm as a host holds it.
 #![tactic(auto)]
 
 ghost use Rattle.std.specs.Prelude.{◌≡◌, false};
 ghost use Rattle.abi_arm.specs.State.{arm_step_in, arm_step_out, arm_in, arm_out};
 
+use abi_values::UnknownNumber;
 use arm::ArmSequencer;
 use arm_steps::ArmStep;
 
@@ -24,42 +25,23 @@ pub struct CArm {
     pub wait_pi: bool,
 }
 
-#[derive(Clone, Copy)]
-pub struct SomeArmStep {
-    pub known: bool,
-    pub value: ArmStep,
-}
+impl TryFrom<CArmStep> for ArmStep {
+    type Error = UnknownNumber;
 
-#[derive(Clone, Copy)]
-pub struct SomeArm {
-    pub known: bool,
-    pub seq: ArmSequencer,
-}
+    ghost try_from_gives = { λ c r. r ≡ arm_step_in c };
 
-fn step_in(c: CArmStep) -> SomeArmStep
-    ensures { result ≡ arm_step_in c }
-{
-    let steps = [
-        ArmStep::WaitDspStatus,
-        ArmStep::WaitAvrStatus,
-        ArmStep::WaitArmAck,
-        ArmStep::WaitPiAndArmed {
-            got_pi: c.got_pi,
-            got_armed: c.got_armed,
-        },
-        ArmStep::Done,
-    ];
-    let at = c.number as usize;
-    if at < 5 {
-        let value = steps[at];
-        return SomeArmStep {
-            known: true,
-            value: value,
-        };
-    }
-    SomeArmStep {
-        known: false,
-        value: ArmStep::WaitDspStatus,
+    fn try_from(c: CArmStep) -> Result<ArmStep, UnknownNumber> {
+        match c.number {
+            0 => Ok(ArmStep::WaitDspStatus),
+            1 => Ok(ArmStep::WaitAvrStatus),
+            2 => Ok(ArmStep::WaitArmAck),
+            3 => Ok(ArmStep::WaitPiAndArmed {
+                got_pi: c.got_pi,
+                got_armed: c.got_armed,
+            }),
+            4 => Ok(ArmStep::Done),
+            _ => Err(UnknownNumber),
+        }
     }
 }
 
@@ -67,50 +49,52 @@ fn plain(number: u8) -> CArmStep
     ensures { result ≡ record { number = number; got_pi = false; got_armed = false } }
 {
     CArmStep {
-        number: number,
+        number,
         got_pi: false,
         got_armed: false,
     }
 }
 
-fn step_out(step: ArmStep) -> CArmStep
-    ensures { result ≡ arm_step_out step }
-{
-    match step {
-        ArmStep::WaitDspStatus => plain(0),
-        ArmStep::WaitAvrStatus => plain(1),
-        ArmStep::WaitArmAck => plain(2),
-        ArmStep::WaitPiAndArmed { got_pi, got_armed } => CArmStep {
-            number: 3,
-            got_pi: got_pi,
-            got_armed: got_armed,
-        },
-        ArmStep::Done => plain(4),
+impl From<ArmStep> for CArmStep {
+    ghost from_gives = { λ step r. r ≡ arm_step_out step };
+
+    fn from(step: ArmStep) -> CArmStep {
+        match step {
+            ArmStep::WaitDspStatus => plain(0),
+            ArmStep::WaitAvrStatus => plain(1),
+            ArmStep::WaitArmAck => plain(2),
+            ArmStep::WaitPiAndArmed { got_pi, got_armed } => CArmStep {
+                number: 3,
+                got_pi,
+                got_armed,
+            },
+            ArmStep::Done => plain(4),
+        }
     }
 }
 
-pub fn arm_in(c: CArm) -> SomeArm
-    ensures { result ≡ arm_in c }
-{
-    let told = step_in(c.step);
-    let step = told.value;
-    SomeArm {
-        known: told.known,
-        seq: ArmSequencer {
-            step: step,
+impl TryFrom<CArm> for ArmSequencer {
+    type Error = UnknownNumber;
+
+    ghost try_from_gives = { λ c r. r ≡ arm_in c };
+
+    fn try_from(c: CArm) -> Result<ArmSequencer, UnknownNumber> {
+        Ok(ArmSequencer {
+            step: c.step.try_into()?,
             retries: c.retries,
             wait_pi: c.wait_pi,
-        },
+        })
     }
 }
 
-pub fn arm_out(seq: ArmSequencer) -> CArm
-    ensures { result ≡ arm_out seq }
-{
-    let step = seq.step;
-    CArm {
-        step: step_out(step),
-        retries: seq.retries,
-        wait_pi: seq.wait_pi,
+impl From<ArmSequencer> for CArm {
+    ghost from_gives = { λ seq r. r ≡ arm_out seq };
+
+    fn from(seq: ArmSequencer) -> CArm {
+        CArm {
+            step: seq.step.into(),
+            retries: seq.retries,
+            wait_pi: seq.wait_pi,
+        }
     }
 }

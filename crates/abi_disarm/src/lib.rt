@@ -1,9 +1,10 @@
-// A disarm as a host holds it. A state with a number that no case has is told as not known.
+// A disarm as a host holds it.
 #![tactic(auto)]
 
 ghost use Rattle.std.specs.Prelude.{◌≡◌};
 ghost use Rattle.abi_disarm.specs.State.{disarm_step_in, disarm_step_out, disarm_in, disarm_out};
 
+use abi_values::UnknownNumber;
 use disarm::{DisarmSequencer, DisarmStep};
 
 #[repr(C)]
@@ -12,38 +13,15 @@ pub struct CDisarm {
     pub step: u8,
 }
 
-#[derive(Clone, Copy)]
-pub struct SomeDisarmStep {
-    pub known: bool,
-    pub value: DisarmStep,
-}
-
-#[derive(Clone, Copy)]
-pub struct SomeDisarm {
-    pub known: bool,
-    pub seq: DisarmSequencer,
-}
-
-fn step_in(n: u8) -> SomeDisarmStep
-    ensures { result ≡ disarm_step_in n }
+fn step_in(number: u8) -> Result<DisarmStep, UnknownNumber>
+    ensures { result ≡ disarm_step_in number }
 {
-    let steps = [
-        DisarmStep::WaitAck,
-        DisarmStep::WaitModeReset,
-        DisarmStep::WaitStateIdle,
-        DisarmStep::Done,
-    ];
-    let at = n as usize;
-    if at < 4 {
-        let value = steps[at];
-        return SomeDisarmStep {
-            known: true,
-            value: value,
-        };
-    }
-    SomeDisarmStep {
-        known: false,
-        value: DisarmStep::WaitAck,
+    match number {
+        0 => Ok(DisarmStep::WaitAck),
+        1 => Ok(DisarmStep::WaitModeReset),
+        2 => Ok(DisarmStep::WaitStateIdle),
+        3 => Ok(DisarmStep::Done),
+        _ => Err(UnknownNumber),
     }
 }
 
@@ -58,22 +36,23 @@ fn step_out(step: DisarmStep) -> u8
     }
 }
 
-pub fn disarm_in(c: CDisarm) -> SomeDisarm
-    ensures { result ≡ disarm_in c }
-{
-    let told = step_in(c.step);
-    let step = told.value;
-    SomeDisarm {
-        known: told.known,
-        seq: DisarmSequencer { step: step },
+impl TryFrom<CDisarm> for DisarmSequencer {
+    type Error = UnknownNumber;
+
+    ghost try_from_gives = { λ c r. r ≡ disarm_in c };
+
+    fn try_from(c: CDisarm) -> Result<DisarmSequencer, UnknownNumber> {
+        let step = step_in(c.step)?;
+        Ok(DisarmSequencer { step })
     }
 }
 
-pub fn disarm_out(seq: DisarmSequencer) -> CDisarm
-    ensures { result ≡ disarm_out seq }
-{
-    let step = seq.step;
-    CDisarm {
-        step: step_out(step),
+impl From<DisarmSequencer> for CDisarm {
+    ghost from_gives = { λ seq r. r ≡ disarm_out seq };
+
+    fn from(seq: DisarmSequencer) -> CDisarm {
+        CDisarm {
+            step: step_out(seq.step),
+        }
     }
 }

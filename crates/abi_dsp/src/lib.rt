@@ -1,16 +1,16 @@
-// A DSP start-up as a host holds it. A state with a number that no case has is told as not known.
+// A DSP start-up as a host holds it.
 #![tactic(auto)]
 
 ghost use Rattle.std.specs.Prelude.{◌≡◌};
-ghost use Rattle.abi_dsp.specs.State.{dsp_step_in, dsp_step_out, nack_in, nack_out, dsp_in, dsp_out};
+ghost use Rattle.abi_dsp.specs.State.{nack_in, nack_out, status_in, status_out, hw_info_in, hw_info_out, dsp_step_in, dsp_step_out, dsp_in, dsp_out};
 
-use abi_messages::{CDspStatus, dsp_status_in, dsp_status_out};
-use abi_values::addr_in;
+use abi_messages::CDspStatus;
+use abi_values::options::{COptionConfigResp, COptionDevInfoResp, COptionInstant};
+use abi_values::{UnknownNumber, addr_in};
 use dsp::DspSequencer;
 use dsp_steps::DspState;
-use dsp_table::{DspReplies, DspStep, OptionDspQueryResp, OptionDspStatus};
-use protocol::{ConfigAck, OptionConfigResp, OptionDevInfoResp, OptionNack, ProdInfoResp, Stored};
-use sequence::OptionInstant;
+use dsp_table::{DspReplies, DspStatusReply, DspStep};
+use protocol::{BusAddr, ConfigAck, DspQueryResp, Nack, ProdInfoResp, Stored};
 
 #[repr(C)]
 #[derive(Clone, Copy)]
@@ -31,62 +31,132 @@ pub struct COptionDspStatus {
 
 #[repr(C)]
 #[derive(Clone, Copy)]
+pub struct COptionDspQueryResp {
+    pub some: bool,
+    pub value: DspQueryResp,
+}
+
+#[repr(C)]
+#[derive(Clone, Copy)]
 pub struct CDsp {
     pub step: u8,
     pub status: COptionDspStatus,
-    pub hw_info: OptionDspQueryResp,
-    pub dev_info: OptionDevInfoResp,
+    pub hw_info: COptionDspQueryResp,
+    pub dev_info: COptionDevInfoResp,
     pub prod_info: [ProdInfoResp; 3],
-    pub config: OptionConfigResp,
+    pub config: COptionConfigResp,
     pub refused: COptionNack,
     pub power_mode_unanswered: bool,
-    pub deadline: OptionInstant,
+    pub deadline: COptionInstant,
     pub last: u64,
 }
 
-#[derive(Clone, Copy)]
-pub struct SomeDspStep {
-    pub known: bool,
-    pub value: DspStep,
-}
+// The source is looked at whether there is a nack or not.
+impl TryFrom<COptionNack> for Option<Nack> {
+    type Error = UnknownNumber;
 
-#[derive(Clone, Copy)]
-pub struct SomeNack {
-    pub known: bool,
-    pub value: OptionNack,
-}
+    ghost try_from_gives = { λ c r. r ≡ nack_in c };
 
-#[derive(Clone, Copy)]
-pub struct SomeDsp {
-    pub known: bool,
-    pub seq: DspSequencer,
-}
-
-fn step_in(n: u8) -> SomeDspStep
-    ensures { result ≡ dsp_step_in n }
-{
-    let steps = [
-        DspStep::WaitStatus,
-        DspStep::WaitDspQuery,
-        DspStep::WaitDevInfo,
-        DspStep::WaitProdInfo0,
-        DspStep::WaitProdInfo1,
-        DspStep::WaitProdInfo2,
-        DspStep::WaitConfig,
-        DspStep::WaitPowerMode,
-        DspStep::Done,
-    ];
-    let at = n as usize;
-    if at < 9 {
-        let value = steps[at];
-        return SomeDspStep {
-            known: true,
-            value: value,
+    fn try_from(c: COptionNack) -> Result<Option<Nack>, UnknownNumber> {
+        let nack = Nack {
+            src: addr_in(c.src)?,
+            type_id: c.type_id,
+            nack: c.nack,
         };
+        Ok(c.some.then_some(nack))
     }
-    SomeDspStep {
-        known: false,
-        value: DspStep::WaitStatus,
+}
+
+impl From<Option<Nack>> for COptionNack {
+    ghost from_gives = { λ nack r. r ≡ nack_out nack };
+
+    fn from(nack: Option<Nack>) -> COptionNack {
+        let none = Nack {
+            src: BusAddr::App,
+            type_id: 0,
+            nack: ConfigAck {
+                bus_addr: 0,
+                acked_cmd: 0,
+            },
+        };
+        let some = nack.is_some();
+        let nack = nack.unwrap_or(none);
+        COptionNack {
+            some,
+            src: nack.src.as_byte(),
+            type_id: nack.type_id,
+            nack: nack.nack,
+        }
+    }
+}
+
+// The layout is looked at whether there is a status or not.
+impl TryFrom<COptionDspStatus> for Option<DspStatusReply> {
+    type Error = UnknownNumber;
+
+    ghost try_from_gives = { λ c r. r ≡ status_in c };
+
+    fn try_from(c: COptionDspStatus) -> Result<Option<DspStatusReply>, UnknownNumber> {
+        let reply = DspStatusReply {
+            status: c.value.try_into()?,
+            payload: c.payload,
+        };
+        Ok(c.some.then_some(reply))
+    }
+}
+
+impl From<Option<DspStatusReply>> for COptionDspStatus {
+    ghost from_gives = { λ reply r. r ≡ status_out reply };
+
+    fn from(reply: Option<DspStatusReply>) -> COptionDspStatus {
+        let some = reply.is_some();
+        let reply = reply.unwrap_or(DspStatusReply::none());
+        COptionDspStatus {
+            some,
+            value: reply.status.into(),
+            payload: reply.payload,
+        }
+    }
+}
+
+impl From<COptionDspQueryResp> for Option<DspQueryResp> {
+    ghost from_gives = { λ c r. r ≡ hw_info_in c };
+
+    fn from(info: COptionDspQueryResp) -> Option<DspQueryResp> {
+        info.some.then_some(info.value)
+    }
+}
+
+impl From<Option<DspQueryResp>> for COptionDspQueryResp {
+    ghost from_gives = { λ info r. r ≡ hw_info_out info };
+
+    fn from(info: Option<DspQueryResp>) -> COptionDspQueryResp {
+        let none = DspQueryResp {
+            version: 0,
+            dsp_type: 0,
+            pcb: 0,
+        };
+        COptionDspQueryResp {
+            some: info.is_some(),
+            value: info.unwrap_or(none),
+        }
+    }
+}
+
+fn step_in(number: u8) -> Result<DspStep, UnknownNumber>
+    ensures { result ≡ dsp_step_in number }
+{
+    match number {
+        0 => Ok(DspStep::WaitStatus),
+        1 => Ok(DspStep::WaitDspQuery),
+        2 => Ok(DspStep::WaitDevInfo),
+        3 => Ok(DspStep::WaitProdInfo0),
+        4 => Ok(DspStep::WaitProdInfo1),
+        5 => Ok(DspStep::WaitProdInfo2),
+        6 => Ok(DspStep::WaitConfig),
+        7 => Ok(DspStep::WaitPowerMode),
+        8 => Ok(DspStep::Done),
+        _ => Err(UnknownNumber),
     }
 }
 
@@ -106,107 +176,51 @@ fn step_out(step: DspStep) -> u8
     }
 }
 
-fn nack_in(c: COptionNack) -> SomeNack
-    ensures { result ≡ nack_in c }
-{
-    let from = addr_in(c.src);
-    let src = from.value;
-    let nack = c.nack;
-    SomeNack {
-        known: from.known,
-        value: OptionNack {
-            some: c.some,
-            src: src,
-            type_id: c.type_id,
-            nack: nack,
-        },
-    }
-}
+impl TryFrom<CDsp> for DspSequencer {
+    type Error = UnknownNumber;
 
-pub fn nack_out(refused: OptionNack) -> COptionNack
-    ensures { result ≡ nack_out refused }
-{
-    let src = refused.src;
-    let nack = refused.nack;
-    COptionNack {
-        some: refused.some,
-        src: src.as_byte(),
-        type_id: refused.type_id,
-        nack: nack,
-    }
-}
+    ghost try_from_gives = { λ c r. r ≡ dsp_in c };
 
-pub fn dsp_in(c: CDsp) -> SomeDsp
-    ensures { result ≡ dsp_in c }
-{
-    let told = step_in(c.step);
-    let held = c.status;
-    let laid = dsp_status_in(held.value);
-    let nack = nack_in(c.refused);
-    let step = told.value;
-    let status = laid.value;
-    let refused = nack.value;
-    let prod_info = c.prod_info;
-    let payload = held.payload;
-    let hw_info = c.hw_info;
-    let dev_info = c.dev_info;
-    let config = c.config;
-    let replies = DspReplies {
-        status: OptionDspStatus {
-            some: held.some,
-            value: status,
-            payload: payload,
-        },
-        hw_info: hw_info,
-        dev_info: dev_info,
-        prod_info: prod_info,
-        config: config,
-        refused: refused,
-        power_mode_unanswered: c.power_mode_unanswered,
-    };
-    let deadline = c.deadline;
-    let state = DspState {
-        step: step,
-        replies: replies,
-        deadline: deadline,
-    };
-    SomeDsp {
-        known: told.known & laid.known & nack.known,
-        seq: DspSequencer {
-            state: state,
+    fn try_from(c: CDsp) -> Result<DspSequencer, UnknownNumber> {
+        let step = step_in(c.step)?;
+        let replies = DspReplies {
+            status: c.status.try_into()?,
+            hw_info: c.hw_info.into(),
+            dev_info: c.dev_info.into(),
+            prod_info: c.prod_info,
+            config: c.config.into(),
+            refused: c.refused.try_into()?,
+            power_mode_unanswered: c.power_mode_unanswered,
+        };
+        let state = DspState {
+            step,
+            replies,
+            deadline: c.deadline.into(),
+        };
+        Ok(DspSequencer {
+            state,
             last: c.last,
-        },
+        })
     }
 }
 
-pub fn dsp_out(seq: DspSequencer) -> CDsp
-    ensures { result ≡ dsp_out seq }
-{
-    let state = seq.state;
-    let step = state.step;
-    let replies = state.replies;
-    let status = replies.status;
-    let laid = status.value;
-    let prod_info = replies.prod_info;
-    let payload = status.payload;
-    let hw_info = replies.hw_info;
-    let dev_info = replies.dev_info;
-    let config = replies.config;
-    let deadline = state.deadline;
-    CDsp {
-        step: step_out(step),
-        status: COptionDspStatus {
-            some: status.some,
-            value: dsp_status_out(laid),
-            payload: payload,
-        },
-        hw_info: hw_info,
-        dev_info: dev_info,
-        prod_info: prod_info,
-        config: config,
-        refused: nack_out(replies.refused),
-        power_mode_unanswered: replies.power_mode_unanswered,
-        deadline: deadline,
-        last: seq.last,
+impl From<DspSequencer> for CDsp {
+    ghost from_gives = { λ seq r. r ≡ dsp_out seq };
+
+    fn from(seq: DspSequencer) -> CDsp {
+        let replies = seq.state.replies;
+        let prod_info = replies.prod_info;
+        CDsp {
+            step: step_out(seq.state.step),
+            status: replies.status.into(),
+            hw_info: replies.hw_info.into(),
+            dev_info: replies.dev_info.into(),
+            prod_info,
+            config: replies.config.into(),
+            refused: replies.refused.into(),
+            power_mode_unanswered: replies.power_mode_unanswered,
+            deadline: seq.state.deadline.into(),
+            last: seq.last,
+        }
     }
 }

@@ -1,7 +1,8 @@
 -- What goes to a host and comes back is what it was: for each value that has a number in place of an enum, and for each sequencer. A message
 -- only comes in and a send only goes out; the way that the host's side goes is written out here for both. Definitions only.
 -- Assumes nothing.
-use Rattle.std.specs.Prelude.{ℕ, ◌≡◌, true, List, [], ◌∷◌, get_or}
+use Rattle.std.specs.Prelude.{ℕ, ◌≡◌, Option, Ok, List, [], ◌∷◌, get_or}
+use Rattle.std.specs.Result.{result_unwrap_or}
 use Rattle.protocol.specs.declared.BusAddr.{BusAddr}
 use Rattle.protocol.specs.declared.CamConfig.{CamConfig}
 use Rattle.protocol.specs.declared.ParamValue.{ParamValue}
@@ -28,6 +29,7 @@ use Rattle.avr_config.specs.declared.AvrConfigSequencer.{AvrConfigSequencer}
 use Rattle.arm.specs.declared.ArmSequencer.{ArmSequencer}
 use Rattle.disarm.specs.declared.DisarmSequencer.{DisarmSequencer}
 use Rattle.abi_values.specs.Numbers.{addr_in, model_in, model_out}
+use Rattle.abi_values.specs.Options.{present}
 use Rattle.abi_values.specs.Params.{param_in, param_out}
 use Rattle.abi_messages.specs.declared.CMessage.{CMessage}
 use Rattle.abi_messages.specs.Messages.{dsp_status_in, dsp_status_out, message_in}
@@ -90,12 +92,12 @@ message_out (Msg.TimeSync t) = written 18 no_avr_status no_dsp_status no_ack 0 n
 message_out (Msg.CamConfig c) = written 19 no_avr_status no_dsp_status no_ack 0 no_param no_cal no_query_resp no_time c
 message_out Msg.Other = plain 20
 
--- ---- a send as a host reads it
+-- ---- a send as a host reads it; a number that no case has, which is never told, is read as the first case
 
 abbrev pub commands_of : CCommand → List Command
 commands_of c =
     Cmd.StatusPoll (record { pi_mode = c.flag }) ∷ Cmd.ModeSet (record { mode = c.byte }) ∷ Cmd.AvrConfigCmd (record { arm = c.flag })
-    ∷ Cmd.ParamReadReq (record { param_id = c.byte }) ∷ Cmd.ParamValue (param_in c.param).value
+    ∷ Cmd.ParamReadReq (record { param_id = c.byte }) ∷ Cmd.ParamValue (result_unwrap_or (param_in c.param) no_param)
     ∷ Cmd.RadarCal (record { range_mm = c.wide; height_mm = c.byte }) ∷ Cmd.DspQuery ∷ Cmd.ConfigQuery ∷ Cmd.AvrConfigQuery ∷ Cmd.DevInfoReq
     ∷ Cmd.ProdInfoReq (record { sub_query = c.byte }) ∷ Cmd.NetConfigReq (record { query_password = c.flag }) ∷ Cmd.CalParamReq
     ∷ Cmd.CalDataReq (record { sub_cmd = c.byte }) ∷ Cmd.TimeSync (record { epoch = c.wide; session = c.byte }) ∷ Cmd.CamConfigReq
@@ -104,22 +106,23 @@ commands_of c =
 abbrev pub command_in : CCommand → Command
 command_in c = get_or (commands_of c) c.number Cmd.DspQuery
 
-abbrev pub action_in : CAction → Action
-action_in a = record { some = a.some; command = command_in a.command; dest = (addr_in a.dest).value; payload = a.payload; tail = a.tail }
+abbrev pub action_in : CAction → Option Action
+action_in a =
+    present a.some (record { command = command_in a.command; dest = result_unwrap_or (addr_in a.dest) BusAddr.App; payload = a.payload; tail = a.tail })
 
 -- ---- there and back
 
 pub record Back : Type 0 where
-  pub addr : (a : BusAddr) → addr_in (byte_of a) ≡ record { known = true; value = a }
-  pub model : (m : DeviceModel) → model_in (model_out m) ≡ record { known = true; value = m }
-  pub dsp_status : (s : DspStatus) → dsp_status_in (dsp_status_out s) ≡ record { known = true; value = s }
-  pub param : (p : ParamValue) → param_in (param_out p) ≡ record { known = true; value = p }
-  pub settings : (s : AvrSettings) → settings_in (settings_out s) ≡ record { known = true; value = s }
-  pub message : (m : Message) → message_in (message_out m) ≡ record { known = true; value = m }
-  pub action : (a : Action) → action_in (action_out a) ≡ a
-  pub dsp : (s : DspSequencer) → dsp_in (dsp_out s) ≡ record { known = true; seq = s }
-  pub avr : (s : AvrSequencer) → avr_in (avr_out s) ≡ record { known = true; seq = s }
-  pub pi : (s : PiSequencer) → pi_in (pi_out s) ≡ record { known = true; seq = s }
-  pub avr_config : (s : AvrConfigSequencer) → avr_config_in (avr_config_out s) ≡ record { known = true; seq = s }
-  pub arm : (s : ArmSequencer) → arm_in (arm_out s) ≡ record { known = true; seq = s }
-  pub disarm : (s : DisarmSequencer) → disarm_in (disarm_out s) ≡ record { known = true; seq = s }
+  pub addr : (a : BusAddr) → addr_in (byte_of a) ≡ Ok a
+  pub model : (m : DeviceModel) → model_in (model_out m) ≡ Ok m
+  pub dsp_status : (s : DspStatus) → dsp_status_in (dsp_status_out s) ≡ Ok s
+  pub param : (p : ParamValue) → param_in (param_out p) ≡ Ok p
+  pub settings : (s : AvrSettings) → settings_in (settings_out s) ≡ Ok s
+  pub message : (m : Message) → message_in (message_out m) ≡ Ok m
+  pub action : (a : Option Action) → action_in (action_out a) ≡ a
+  pub dsp : (s : DspSequencer) → dsp_in (dsp_out s) ≡ Ok s
+  pub avr : (s : AvrSequencer) → avr_in (avr_out s) ≡ Ok s
+  pub pi : (s : PiSequencer) → pi_in (pi_out s) ≡ Ok s
+  pub avr_config : (s : AvrConfigSequencer) → avr_config_in (avr_config_out s) ≡ Ok s
+  pub arm : (s : ArmSequencer) → arm_in (arm_out s) ≡ Ok s
+  pub disarm : (s : DisarmSequencer) → disarm_in (disarm_out s) ≡ Ok s

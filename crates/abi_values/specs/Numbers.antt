@@ -1,36 +1,38 @@
--- Devices, models and outcomes by number, and back. A number that no case has is not known; beside it stands the first case. Definitions only.
+-- Devices, models and outcomes by number, and back. A number that no case has is not known. Definitions only.
 -- Assumes nothing.
-use Rattle.std.specs.Prelude.{ℕ, true, false, cond, List, [], ◌∷◌, eqb, ltb, get_or}
+use Rattle.std.specs.Prelude.{ℕ, cond, eqb, Result, Ok, Err}
 use Rattle.protocol.specs.declared.BusAddr.{BusAddr}
-use Rattle.protocol.specs.declared.Outcome.{Outcome}
-use Rattle.protocol.specs.declared.Outcome.TheVariants.{Accepted, Refused}
+use Rattle.protocol.specs.declared.Refusal.{Refusal}
 use Rattle.protocol.specs.Refusals.{number}
 use Rattle.device.specs.declared.model.DeviceModel.{DeviceModel}
 use Rattle.device.specs.declared.model.DeviceModel.TheVariants.{Mevo, Xi}
-use Rattle.abi_values.specs.declared.SomeAddr.{SomeAddr}
-use Rattle.abi_values.specs.declared.SomeModel.{SomeModel}
+use Rattle.abi_values.specs.declared.UnknownNumber.{UnknownNumber}
+
+abbrev pub unknown : {A : Type 0} → Result A UnknownNumber
+unknown = Err (record {})
+
+-- f of what a number stands for, where it stands for anything
+abbrev pub and_then : {A B : Type 0} → Result A UnknownNumber → (A → Result B UnknownNumber) → Result B UnknownNumber
+and_then (Ok x) f = f x
+and_then (Err e) f = Err e
 
 -- the device at a byte of the bus
-abbrev pub addr_in : ℕ → SomeAddr
+abbrev pub addr_in : ℕ → Result BusAddr UnknownNumber
 addr_in b =
-    cond (eqb b 0x10) (record { known = true; value = BusAddr.App })
-    (cond (eqb b 0x12) (record { known = true; value = BusAddr.Pi })
-    (cond (eqb b 0x30) (record { known = true; value = BusAddr.Avr })
-    (cond (eqb b 0x40) (record { known = true; value = BusAddr.Dsp })
-    (record { known = false; value = BusAddr.App }))))
+    cond (eqb b 0x10) (Ok BusAddr.App)
+    (cond (eqb b 0x12) (Ok BusAddr.Pi)
+    (cond (eqb b 0x30) (Ok BusAddr.Avr)
+    (cond (eqb b 0x40) (Ok BusAddr.Dsp)
+    unknown)))
 
--- 0 and 1
-abbrev pub models : List DeviceModel
-models = Mevo ∷ Xi ∷ []
-
-abbrev pub model_in : ℕ → SomeModel
-model_in n = cond (ltb n 2) (record { known = true; value = get_or models n Mevo }) (record { known = false; value = Mevo })
+abbrev pub model_in : ℕ → Result DeviceModel UnknownNumber
+model_in n = cond (eqb n 0) (Ok Mevo) (cond (eqb n 1) (Ok Xi) unknown)
 
 abbrev pub model_out : DeviceModel → ℕ
 model_out Mevo = 0
 model_out Xi = 1
 
 -- 0, or the refusal's number
-abbrev pub refusal_out : Outcome → ℕ
-refusal_out Accepted = 0
-refusal_out (Refused r) = number r
+abbrev pub refusal_out : {A : Type 0} → Result A Refusal → ℕ
+refusal_out (Ok x) = 0
+refusal_out (Err r) = number r

@@ -1,14 +1,20 @@
 // What crosses to a host with a number where the sequences have an enum: a device by its byte on the bus, a refusal by its number, any
 // other case by its place in the enum of the Rust. A number that no case has is told as not known, and never taken for another. Here
-// devices, models, outcomes and parameters.
+// devices, models, refusals and parameters, and in `options` the records that may be absent.
 #![tactic(auto)]
 
-ghost use Rattle.std.specs.Prelude.{◌≡◌, true};
+ghost use Rattle.std.specs.Prelude.{◌≡◌};
 ghost use Rattle.abi_values.specs.Numbers.{addr_in, model_in, model_out, refusal_out};
-ghost use Rattle.abi_values.specs.Params.{known_param, param_in, param_out};
+ghost use Rattle.abi_values.specs.Params.{param_in, param_out};
 
 use device::model::DeviceModel;
-use protocol::{BusAddr, Outcome, ParamData, ParamValue};
+use protocol::{BusAddr, ParamData, ParamValue, Refusal};
+
+pub mod options;
+
+// A number that no case has.
+#[derive(Clone, Copy, PartialEq, Eq)]
+pub struct UnknownNumber;
 
 // `int24` counts where `format` is 0, `float40` where it is 1.
 #[repr(C)]
@@ -20,70 +26,26 @@ pub struct CParamValue {
     pub float40: f64,
 }
 
-#[derive(Clone, Copy)]
-pub struct SomeAddr {
-    pub known: bool,
-    pub value: BusAddr,
-}
-
-#[derive(Clone, Copy)]
-pub struct SomeModel {
-    pub known: bool,
-    pub value: DeviceModel,
-}
-
-#[derive(Clone, Copy)]
-pub struct SomeParamValue {
-    pub known: bool,
-    pub value: ParamValue,
-}
-
-fn known_addr(value: BusAddr) -> SomeAddr
-    ensures { result ≡ record { known = true; value = value } }
-{
-    SomeAddr {
-        known: true,
-        value: value,
-    }
-}
-
-// The device at this byte of the bus.
-pub fn addr_in(byte: u8) -> SomeAddr
+// The device at this byte of the bus. A function, and no `TryFrom`: both types stand in crates below.
+pub fn addr_in(byte: u8) -> Result<BusAddr, UnknownNumber>
     ensures { result ≡ addr_in byte }
 {
-    if byte == 0x10 {
-        return known_addr(BusAddr::App);
-    }
-    if byte == 0x12 {
-        return known_addr(BusAddr::Pi);
-    }
-    if byte == 0x30 {
-        return known_addr(BusAddr::Avr);
-    }
-    if byte == 0x40 {
-        return known_addr(BusAddr::Dsp);
-    }
-    SomeAddr {
-        known: false,
-        value: BusAddr::App,
+    match byte {
+        0x10 => Ok(BusAddr::App),
+        0x12 => Ok(BusAddr::Pi),
+        0x30 => Ok(BusAddr::Avr),
+        0x40 => Ok(BusAddr::Dsp),
+        _ => Err(UnknownNumber),
     }
 }
 
-pub fn model_in(n: u8) -> SomeModel
-    ensures { result ≡ model_in n }
+pub fn model_in(number: u8) -> Result<DeviceModel, UnknownNumber>
+    ensures { result ≡ model_in number }
 {
-    let models = [DeviceModel::Mevo, DeviceModel::Xi];
-    let at = n as usize;
-    if at < 2 {
-        let value = models[at];
-        return SomeModel {
-            known: true,
-            value: value,
-        };
-    }
-    SomeModel {
-        known: false,
-        value: DeviceModel::Mevo,
+    match number {
+        0 => Ok(DeviceModel::Mevo),
+        1 => Ok(DeviceModel::Xi),
+        _ => Err(UnknownNumber),
     }
 }
 
@@ -97,61 +59,50 @@ pub fn model_out(model: DeviceModel) -> u8
 }
 
 // 0 for an accepted call, else the refusal's number.
-pub fn refusal_out(outcome: Outcome) -> u8
+pub fn refusal_out<T: Copy>(outcome: Result<T, Refusal>) -> u8
     ensures { result ≡ refusal_out outcome }
 {
     match outcome {
-        Outcome::Accepted => 0,
-        Outcome::Refused(refusal) => refusal.number(),
+        Ok(_) => 0,
+        Err(refusal) => refusal.number(),
     }
 }
 
-fn known_param(param_id: u8, value: ParamData) -> SomeParamValue
-    ensures { result ≡ known_param param_id value }
-{
-    SomeParamValue {
-        known: true,
-        value: ParamValue {
-            param_id: param_id,
-            value: value,
-        },
-    }
-}
+impl TryFrom<CParamValue> for ParamValue {
+    type Error = UnknownNumber;
 
-pub fn param_in(param: CParamValue) -> SomeParamValue
-    ensures { result ≡ param_in param }
-{
-    if param.format == 0 {
-        return known_param(param.param_id, ParamData::Int24(param.int24));
-    }
-    if param.format == 1 {
-        return known_param(param.param_id, ParamData::Float40(param.float40));
-    }
-    SomeParamValue {
-        known: false,
-        value: ParamValue {
-            param_id: 0,
-            value: ParamData::Int24(0),
-        },
-    }
-}
+    ghost try_from_gives = { λ param r. r ≡ param_in param };
 
-pub fn param_out(param: ParamValue) -> CParamValue
-    ensures { result ≡ param_out param }
-{
-    let value = param.value;
-    match value {
-        ParamData::Int24(int24) => CParamValue {
+    fn try_from(param: CParamValue) -> Result<ParamValue, UnknownNumber> {
+        let value = match param.format {
+            0 => ParamData::Int24(param.int24),
+            1 => ParamData::Float40(param.float40),
+            _ => return Err(UnknownNumber),
+        };
+        Ok(ParamValue {
             param_id: param.param_id,
-            format: 0,
-            int24: int24,
-            float40: 0.0,
-        },
-        ParamData::Float40(float40) => CParamValue {
-            param_id: param.param_id,
-            format: 1,
-            int24: 0,
-            float40: float40,
-        },
+            value,
+        })
+    }
+}
+
+impl From<ParamValue> for CParamValue {
+    ghost from_gives = { λ param r. r ≡ param_out param };
+
+    fn from(param: ParamValue) -> CParamValue {
+        match param.value {
+            ParamData::Int24(int24) => CParamValue {
+                param_id: param.param_id,
+                format: 0,
+                int24,
+                float40: 0.0,
+            },
+            ParamData::Float40(float40) => CParamValue {
+                param_id: param.param_id,
+                format: 1,
+                int24: 0,
+                float40,
+            },
+        }
     }
 }

@@ -5,25 +5,25 @@ use mathlib.Core.Bool.{true}
 use Prim.Native.Nat.{◌≤◌, ◌<◌}
 use native.Mathlib.Omega.{arith}
 use Rattle.protocol.specs.declared.Refusal.{Refusal}
-use Rattle.protocol.specs.declared.Outcome.{Outcome}
+use Rattle.std.specs.Prelude.{Result, Ok, Err}
 use Rattle.protocol.specs.Refusals.{Applies, outcome, lowest}
 use Rattle.protocol.proofs.Numbers.{Rises, end, then, Listed, lowest_least}
 use Rattle.sequence.specs.Accepted.{bytes_outcome}
 use Rattle.sequence.specs.Events.{Envelope}
-use Rattle.sequence.specs.Rows.{judged}
+use Rattle.sequence.specs.Rows.{judged, refused}
 use Rattle.sequence.proofs.Acceptance.{bytes_first, bytes_pass}
 use Rattle.sequence.proofs.Arms.{judged_refused}
 use Rattle.arm.specs.declared.ArmSequencer.{ArmSequencer}
-use Rattle.arm.specs.Answers.{accepted, refused, retries_refusals, advance, arm_refusals, answered_at, fed_to}
+use Rattle.arm.specs.Answers.{accepted, retries_refusals, advance, arm_refusals, answered_at, fed_to}
 
 -- where 1 and 2 don't apply the step decides; where one does, it is refused
-pub by_step : (s : ArmSequencer) (e : Envelope) → bytes_outcome e.text e.payload ≡ Outcome.Accepted → answered_at s.step s e ≡ fed_to s e
+pub by_step : (s : ArmSequencer) (e : Envelope) → bytes_outcome e.text e.payload ≡ Ok tt → answered_at s.step s e ≡ fed_to s e
 by_step s e h =
-    ap (λ (o : Outcome). judged o (accepted s (advance s e)) (refused s))
+    ap (λ (o : Result (Unit {0}) Refusal). judged o (accepted s (advance s e)) (refused s))
     (sym (bytes_pass e.text e.payload (retries_refusals s (advance s e)) h))
 
-pub by_bytes : (s : ArmSequencer) (e : Envelope) (r : Refusal) → bytes_outcome e.text e.payload ≡ Outcome.Refused r
-    → refused s (Outcome.Refused r) ≡ fed_to s e
+pub by_bytes : (s : ArmSequencer) (e : Envelope) (r : Refusal) → bytes_outcome e.text e.payload ≡ Err r
+    → refused s r ≡ fed_to s e
 by_bytes s e r h =
     judged_refused (outcome (lowest (arm_refusals s e))) (accepted s (advance s e)) (refused s) r
     (bytes_first e.text e.payload (retries_refusals s (advance s e)) r h)

@@ -4,19 +4,19 @@
 #![tactic(auto)]
 
 ghost use Rattle.std.specs.Prelude.{◌≡◌, []};
-ghost use Rattle.protocol.specs.declared.Outcome.{Outcome};
 ghost use Rattle.device.specs.declared.model.DeviceModel.{DeviceModel};
-ghost use Rattle.arm.specs.Answers.{begun, refused, counted, fed_to};
+ghost use Rattle.arm.specs.Answers.{begun, counted, fed_to};
 
 use arm_steps::{ArmMoved, ArmStep};
 use device::model::DeviceModel;
-use protocol::{Action, BusAddr, Message, Outcome, Refusal};
+use protocol::{BusAddr, Message, Refusal};
 use requests::status_poll;
+use sequence::Answer;
 
 // The most nacks that are counted.
 const MAX_RETRIES: u16 = 65_535;
 
-#[derive(Clone, Copy)]
+#[derive(Clone, Copy, PartialEq, Eq)]
 pub struct ArmSequencer {
     pub step: ArmStep,
     // the nacks so far
@@ -25,71 +25,48 @@ pub struct ArmSequencer {
     pub wait_pi: bool,
 }
 
-#[derive(Clone, Copy)]
-pub struct ArmFed {
-    pub outcome: Outcome,
-    pub action: Action,
-    pub seq: ArmSequencer,
-}
-
 impl ArmSequencer {
-    fn refuse(self, refusal: Refusal) -> ArmFed
-        ensures { result ≡ refused self (Outcome.Refused refusal) }
-    {
-        let action = Action::none();
-        ArmFed {
-            outcome: Outcome::Refused(refusal),
-            action: action,
-            seq: self,
-        }
-    }
-
     // A feed that the step has answered: a nack is counted.
-    fn counted(self, moved: ArmMoved) -> ArmFed
+    fn counted(self, moved: ArmMoved) -> Answer<ArmSequencer>
         ensures { result ≡ counted self moved }
     {
         let mut retries = self.retries;
         if moved.nacked {
             if retries == MAX_RETRIES {
-                return self.refuse(Refusal::RetriesFull);
+                return Answer::refused(Refusal::RetriesFull, self);
             }
-            retries = retries + 1;
+            retries += 1;
         }
-        let action = moved.action;
-        let step = moved.step;
-        ArmFed {
-            outcome: Outcome::Accepted,
-            action: action,
-            seq: ArmSequencer {
-                step: step,
-                retries: retries,
-                wait_pi: self.wait_pi,
+        Answer::accepted(
+            moved.action,
+            ArmSequencer {
+                step: moved.step,
+                retries,
+                ..self
             },
-        }
+        )
     }
 
     // ---- the calls
 
     // Arm a Mevo.
-    pub fn new() -> ArmFed
+    pub fn new() -> Answer<ArmSequencer>
         ensures { result ≡ begun DeviceModel.Mevo }
     {
         ArmSequencer::new_for(DeviceModel::Mevo)
     }
 
-    pub fn new_for(model: DeviceModel) -> ArmFed
+    pub fn new_for(model: DeviceModel) -> Answer<ArmSequencer>
         ensures { result ≡ begun model }
     {
-        let action = status_poll(false, BusAddr::Dsp);
-        ArmFed {
-            outcome: Outcome::Accepted,
-            action: action,
-            seq: ArmSequencer {
+        Answer::accepted(
+            Some(status_poll(false, BusAddr::Dsp)),
+            ArmSequencer {
                 step: ArmStep::WaitDspStatus,
                 retries: 0,
                 wait_pi: model.has_camera(),
             },
-        }
+        )
     }
 
     pub fn feed(
@@ -99,16 +76,15 @@ impl ArmSequencer {
         message: Message,
         text: &[u8],
         payload: &[u8],
-    ) -> ArmFed
+    ) -> Answer<ArmSequencer>
         ensures { result ≡ fed_to self (record { src = src; type_id = type_id; message = message; params = []; text = text.now; payload = payload.now }) }
     {
-        let outcome = sequence::accept_bytes(text, payload);
-        match outcome {
-            Outcome::Accepted => {
-                let step = self.step;
-                return self.counted(arm_steps::feed(step, self.wait_pi, src, message, text));
+        match sequence::accept_bytes(text, payload) {
+            Ok(()) => {
+                let moved = arm_steps::feed(self.step, self.wait_pi, src, message, text);
+                self.counted(moved)
             }
-            Outcome::Refused(refusal) => return self.refuse(refusal),
+            Err(refusal) => Answer::refused(refusal, self),
         }
     }
 

@@ -10,8 +10,8 @@ use mathlib.Core.Bool.{Bool, true, false, not, cond, ◌&&◌, ◌||◌, true≢
 use mathlib.Core.List.{List, [], ◌∷◌, ◌++◌}
 use lib.Dec.{eqb, ltb}
 use borrow.Author.Tests.{eq-eqb, ne_eqb, eqb-true, ltb-true, ltb-false}
-use Rattle.protocol.specs.declared.Outcome.{Outcome}
-use Rattle.protocol.specs.declared.Outcome.TheVariants.{Accepted, Refused}
+use Rattle.std.specs.Prelude.{Result, Ok, Err}
+use Rattle.protocol.specs.declared.Refusal.{Refusal}
 use Rattle.protocol.specs.Addr.{byte_of}
 use Rattle.protocol.specs.Kinds.{tag}
 use Rattle.matching.specs.Promise.{after_all}
@@ -23,7 +23,7 @@ use Rattle.arm_steps.specs.declared.ArmStep.{ArmStep}
 use Rattle.arm_steps.specs.declared.ArmStep.TheVariants.{WaitDspStatus, WaitAvrStatus, WaitArmAck, WaitPiAndArmed, Done}
 use Rattle.arm_steps.specs.Answers.{dsp_status, avr_status, ack, nack, pi_status, armed}
 use Rattle.arm.specs.declared.ArmSequencer.{ArmSequencer}
-use Rattle.arm.specs.declared.ArmFed.{ArmFed}
+use Rattle.sequence.specs.declared.Answer.{Answer}
 use Rattle.arm.specs.Answers.{answered_at}
 use Rattle.arm.specs.Calls.{after}
 use Rattle.arm.proofs.Steps.{by_step, by_bytes}
@@ -165,22 +165,22 @@ one_more cam e cs ih n a l = go (bytes_outcome e.text e.payload) refl
     s : ArmSequencer
     s = state_of cam n a
 
-    in_run : (b : Bool) → counted n a e ≡ b → bytes_outcome e.text e.payload ≡ Accepted
+    in_run : (b : Bool) → counted n a e ≡ b → bytes_outcome e.text e.payload ≡ Ok tt
         → after_all after (after s e) cs ≡ state_at cam (nacks_from n a (e ∷ run cs))
     in_run true c o =
-        let there : after s e ≡ state_of cam (suc n) [] = ap (λ (f : ArmFed). f.seq) (sym (by_step s e o)) ∙ moves cam n a e l ∙ rw c in
+        let there : after s e ≡ state_of cam (suc n) [] = ap (λ (f : Answer ArmSequencer). f.seq) (sym (by_step s e o)) ∙ moves cam n a e l ∙ rw c in
         rw (there, c) (ih (suc n) [] (counted_few n a e c))
     in_run false c o =
-        let there : after s e ≡ state_of cam n (a ++ e ∷ []) = ap (λ (f : ArmFed). f.seq) (sym (by_step s e o)) ∙ moves cam n a e l ∙ rw c in
+        let there : after s e ≡ state_of cam n (a ++ e ∷ []) = ap (λ (f : Answer ArmSequencer). f.seq) (sym (by_step s e o)) ∙ moves cam n a e l ∙ rw c in
         rw (there, c) (ih n (a ++ e ∷ []) l)
 
-    go : (o : Outcome) → bytes_outcome e.text e.payload ≡ o → after_all after (after s e) cs ≡ state_at cam (nacks_from n a (run (e ∷ cs)))
-    go Accepted o =
+    go : (o : Result (Unit {0}) Refusal) → bytes_outcome e.text e.payload ≡ o → after_all after (after s e) cs ≡ state_at cam (nacks_from n a (run (e ∷ cs)))
+    go (Ok u) o =
         let passed : none (bytes_refusals e.text e.payload) ≡ true = sym (bytes_accepted e.text e.payload) ∙ ap accepted o in
         rw passed (in_run (counted n a e) refl o)
-    go (Refused r) o =
+    go (Err r) o =
         let refused : none (bytes_refusals e.text e.payload) ≡ false = sym (bytes_accepted e.text e.payload) ∙ ap accepted o in
-        let there : after s e ≡ s = ap (λ (f : ArmFed). f.seq) (sym (by_bytes s e r o)) in
+        let there : after s e ≡ s = ap (λ (f : Answer ArmSequencer). f.seq) (sym (by_bytes s e r o)) in
         rw (there, refused) (ih n a l)
 
 all : (cam : Bool) (cs : List Envelope) (n : ℕ) (a : List Envelope) → n ≤ 65_535

@@ -1,10 +1,9 @@
 -- What an arm does with a feed, step by step (01: "Disarm and arm"): which feeds lead on, what is sent, which step comes next, and whether a
 -- nack is counted. Definitions only.
 -- Assumes nothing.
-use Rattle.std.specs.Prelude.{ℕ, Bool, true, false, not, cond, ◌&&◌, ◌||◌, List, [], ◌∷◌}
+use Rattle.std.specs.Prelude.{ℕ, Bool, true, false, not, cond, ◌&&◌, ◌||◌, List, [], ◌∷◌, Some, None}
 use Rattle.protocol.specs.declared.BusAddr.{BusAddr}
 use Rattle.protocol.specs.declared.Action.{Action}
-use Rattle.protocol.specs.Action.{no_action}
 use Rattle.protocol.specs.Kinds as kinds
 use Rattle.device.specs.Search.{contains}
 use Rattle.requests.specs.Requests.{status_poll, avr_config_cmd}
@@ -50,14 +49,14 @@ armed e = of_kind kinds.text e && is_armed e.text
 
 -- a send, and the step that it begins
 abbrev pub send : Action → ArmStep → ArmMoved
-send a k = record { action = a; step = k; nacked = false }
+send a k = record { action = Some a; step = k; nacked = false }
 
 abbrev pub no_send : ArmStep → ArmMoved
-no_send k = record { action = no_action; step = k; nacked = false }
+no_send k = record { action = None; step = k; nacked = false }
 
 -- the unit refused: one more is counted, and it goes back to the beginning
 abbrev pub retried : ArmMoved
-retried = record { action = status_poll false BusAddr.Dsp; step = WaitDspStatus; nacked = true }
+retried = record { action = Some (status_poll false BusAddr.Dsp); step = WaitDspStatus; nacked = true }
 
 -- the unit took it: the Pi is polled if there is one
 abbrev pub taken : Bool → ArmMoved

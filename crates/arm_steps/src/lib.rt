@@ -4,16 +4,15 @@
 
 ghost use Rattle.std.specs.Prelude.{◌≡◌, false, []};
 ghost use Rattle.protocol.specs.declared.BusAddr.{BusAddr};
-ghost use Rattle.requests.specs.Requests.{status_poll};
 ghost use Rattle.sequence.specs.Events.{plain};
 ghost use Rattle.arm_steps.specs.declared.ArmStep.{ArmStep};
-ghost use Rattle.arm_steps.specs.Answers.{is_armed, no_send, moved_at};
+ghost use Rattle.arm_steps.specs.Answers.{is_armed, send, no_send, moved_at};
 
 use device::search::contains;
 use protocol::{Action, BusAddr, Message};
 use requests::{avr_config_cmd, status_poll};
 
-#[derive(Clone, Copy)]
+#[derive(Clone, Copy, PartialEq, Eq)]
 pub enum ArmStep {
     WaitDspStatus,
     WaitAvrStatus,
@@ -25,7 +24,7 @@ pub enum ArmStep {
 
 #[derive(Clone, Copy)]
 pub struct ArmMoved {
-    pub action: Action,
+    pub action: Option<Action>,
     pub step: ArmStep,
     // the unit refused: one more is to be counted
     pub nacked: bool,
@@ -35,88 +34,72 @@ pub struct ArmMoved {
 fn is_armed(text: &[u8]) -> bool
     ensures { result ≡ is_armed text.now }
 {
-    if contains(text, b"CANCELLED") {
-        return false;
+    contains(text, b"ARMED") && !contains(text, b"CANCELLED")
+}
+
+// A send, and the step that it begins.
+fn send(action: Action, step: ArmStep) -> ArmMoved
+    ensures { result ≡ send action step }
+{
+    ArmMoved {
+        action: Some(action),
+        step,
+        nacked: false,
     }
-    contains(text, b"ARMED")
 }
 
 // Nothing is sent.
 fn no_send(step: ArmStep) -> ArmMoved
     ensures { result ≡ no_send step }
 {
-    let action = Action::none();
     ArmMoved {
-        action: action,
-        step: step,
+        action: None,
+        step,
         nacked: false,
-    }
-}
-
-// A device is asked for its status.
-fn poll(pi_mode: bool, dest: BusAddr, step: ArmStep, nacked: bool) -> ArmMoved
-    ensures { result ≡ record { action = status_poll pi_mode dest; step = step; nacked = nacked } }
-{
-    let action = status_poll(pi_mode, dest);
-    ArmMoved {
-        action: action,
-        step: step,
-        nacked: nacked,
     }
 }
 
 fn wait_arm_ack(wait_pi: bool, src: BusAddr, message: Message) -> ArmMoved
     ensures { result ≡ moved_at ArmStep.WaitArmAck wait_pi (plain src message []) }
 {
-    if let BusAddr::Avr = src {
-        match message {
-            // the unit refused
-            Message::ConfigNack(_) => {
-                return poll(false, BusAddr::Dsp, ArmStep::WaitDspStatus, true);
+    let BusAddr::Avr = src else {
+        return no_send(ArmStep::WaitArmAck);
+    };
+    match message {
+        // the unit refused
+        Message::ConfigNack(_) => ArmMoved {
+            action: Some(status_poll(false, BusAddr::Dsp)),
+            step: ArmStep::WaitDspStatus,
+            nacked: true,
+        },
+        // the unit took it
+        Message::ConfigAck(_) => {
+            let step = ArmStep::WaitPiAndArmed {
+                got_pi: !wait_pi,
+                got_armed: false,
+            };
+            if wait_pi {
+                return send(status_poll(true, BusAddr::Pi), step);
             }
-            // the unit took it
-            Message::ConfigAck(_) => {
-                if !wait_pi {
-                    return no_send(ArmStep::WaitPiAndArmed {
-                        got_pi: true,
-                        got_armed: false,
-                    });
-                }
-                let both = ArmStep::WaitPiAndArmed {
-                    got_pi: false,
-                    got_armed: false,
-                };
-                return poll(true, BusAddr::Pi, both, false);
-            }
-            _ => {}
+            no_send(step)
         }
+        _ => no_send(ArmStep::WaitArmAck),
     }
-    no_send(ArmStep::WaitArmAck)
 }
 
 // Done once both have come.
 fn wait_pi_and_armed(got_pi: bool, got_armed: bool, message: Message, text: &[u8]) -> ArmMoved
     ensures { result ≡ moved_at (ArmStep.WaitPiAndArmed got_pi got_armed) false (plain BusAddr.App message text.now) }
 {
-    let mut pi = got_pi;
-    let mut armed = got_armed;
-    match message {
-        Message::PiStatus => pi = true,
-        Message::Text => {
-            if is_armed(text) {
-                armed = true;
-            }
-        }
-        _ => {}
-    }
-    let mut step = ArmStep::WaitPiAndArmed {
-        got_pi: pi,
-        got_armed: armed,
+    let (got_pi, got_armed) = match message {
+        Message::PiStatus => (true, got_armed),
+        Message::Text => (got_pi, got_armed || is_armed(text)),
+        _ => (got_pi, got_armed),
     };
-    if pi & armed {
-        step = ArmStep::Done;
+    if got_pi && got_armed {
+        return no_send(ArmStep::Done);
     }
-    no_send(step)
+    no_send(ArmStep::WaitPiAndArmed { got_pi, got_armed })
 }
 
 // A feed to which neither refusal 1 nor 2 applies.
@@ -125,22 +108,13 @@ pub fn feed(step: ArmStep, wait_pi: bool, src: BusAddr, message: Message, text: 
 {
     match step {
         ArmStep::WaitDspStatus => {
-            if let BusAddr::Dsp = src {
-                if let Message::DspStatus(_) = message {
-                    return poll(false, BusAddr::Avr, ArmStep::WaitAvrStatus, false);
-                }
+            if let (BusAddr::Dsp, Message::DspStatus(_)) = (src, message) {
+                return send(status_poll(false, BusAddr::Avr), ArmStep::WaitAvrStatus);
             }
         }
         ArmStep::WaitAvrStatus => {
-            if let BusAddr::Avr = src {
-                if let Message::AvrStatus(_) = message {
-                    let arm = avr_config_cmd(true);
-                    return ArmMoved {
-                        action: arm,
-                        step: ArmStep::WaitArmAck,
-                        nacked: false,
-                    };
-                }
+            if let (BusAddr::Avr, Message::AvrStatus(_)) = (src, message) {
+                return send(avr_config_cmd(true), ArmStep::WaitArmAck);
             }
         }
         ArmStep::WaitArmAck => return wait_arm_ack(wait_pi, src, message),

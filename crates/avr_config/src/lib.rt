@@ -3,11 +3,13 @@
 #![tactic(auto)]
 
 ghost use Rattle.std.specs.Prelude.{◌≡◌, []};
+ghost use Rattle.avr_config_steps.specs.declared.AvrConfigStep.{AvrConfigStep};
 ghost use Rattle.avr_config.specs.Answers.{begun, fed_to};
 
-use avr_config_steps::{AvrConfigMoved, AvrConfigStep};
-use protocol::{Action, BusAddr, Message, Outcome, Refusal};
+use avr_config_steps::AvrConfigStep;
+use protocol::{BusAddr, Message, Refusal};
 use requests::avr_config_cmd;
+use sequence::Answer;
 use settings::{AvrSettings, MAX_PARAMS};
 
 #[derive(Clone, Copy)]
@@ -16,49 +18,27 @@ pub struct AvrConfigSequencer {
     pub settings: AvrSettings,
 }
 
-// `new` is refused where the settings have too many parameters.
-#[derive(Clone, Copy)]
-pub struct AvrConfigFed {
-    pub outcome: Outcome,
-    pub action: Action,
-    pub seq: AvrConfigSequencer,
-}
-
-fn answer(
-    outcome: Outcome,
-    action: Action,
-    step: AvrConfigStep,
-    settings: AvrSettings,
-) -> AvrConfigFed
-    ensures { result ≡ record { outcome = outcome; action = action; seq = record { step = step; settings = settings } } }
-{
-    AvrConfigFed {
-        outcome: outcome,
-        action: action,
-        seq: AvrConfigSequencer {
-            step: step,
-            settings: settings,
-        },
-    }
-}
-
 impl AvrConfigSequencer {
-    // Beside a refusal stands a run with mode 0, no parameters and no calibration.
-    pub fn new(settings: AvrSettings) -> AvrConfigFed
+    // At its first step.
+    fn with(settings: AvrSettings) -> AvrConfigSequencer
+        ensures { result ≡ record { step = AvrConfigStep.WaitInitGateAck; settings = settings } }
+    {
+        AvrConfigSequencer {
+            step: AvrConfigStep::WaitInitGateAck,
+            settings,
+        }
+    }
+
+    // Refused where the settings have too many parameters: beside the refusal stands a run with mode 0, no parameters and no calibration.
+    pub fn new(settings: AvrSettings) -> Answer<AvrConfigSequencer>
         ensures { result ≡ begun settings }
     {
-        let step = AvrConfigStep::WaitInitGateAck;
         if MAX_PARAMS < settings.len {
-            let none = AvrSettings::mode_only(0);
-            return answer(
-                Outcome::Refused(Refusal::TooManyParams),
-                Action::none(),
-                step,
-                none,
-            );
+            let none = AvrConfigSequencer::with(AvrSettings::mode_only(0));
+            return Answer::refused(Refusal::TooManyParams, none);
         }
-        let kept = settings.kept();
-        answer(Outcome::Accepted, avr_config_cmd(false), step, kept)
+        let run = AvrConfigSequencer::with(settings.kept());
+        Answer::accepted(Some(avr_config_cmd(false)), run)
     }
 
     // Only what comes from the AVR is looked at.
@@ -69,24 +49,22 @@ impl AvrConfigSequencer {
         message: Message,
         text: &[u8],
         payload: &[u8],
-    ) -> AvrConfigFed
+    ) -> Answer<AvrConfigSequencer>
         ensures { result ≡ fed_to self (record { src = src; type_id = type_id; message = message; params = []; text = text.now; payload = payload.now }) }
     {
-        let outcome = sequence::accept_bytes(text, payload);
-        let step = self.step;
-        let settings = self.settings;
-        let action = Action::none();
-        let mut moved = AvrConfigMoved {
-            action: action,
-            step: step,
-        };
-        if let Outcome::Accepted = outcome {
-            if let BusAddr::Avr = src {
-                moved = avr_config_steps::feed(settings, step, message);
-            }
+        if let Err(refusal) = sequence::accept_bytes(text, payload) {
+            return Answer::refused(refusal, self);
         }
-        let sent = moved.action;
-        let next = moved.step;
-        answer(outcome, sent, next, settings)
+        let BusAddr::Avr = src else {
+            return Answer::accepted(None, self);
+        };
+        let moved = avr_config_steps::feed(self.settings, self.step, message);
+        Answer::accepted(
+            moved.action,
+            AvrConfigSequencer {
+                step: moved.state,
+                ..self
+            },
+        )
     }
 }

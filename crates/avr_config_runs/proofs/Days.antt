@@ -5,6 +5,7 @@ use Prim.Native.Nat.{ℕ}
 use mathlib.Core.Path.{◌≡◌, refl, sym, ap}
 use mathlib.Core.Bool.{true, true≢false}
 use mathlib.Core.List.{List, [], ◌∷◌, ◌++◌}
+use Rattle.std.specs.Prelude.{Some}
 use lib.IntN.{ℤ}
 use lib.ListN.{replicate}
 use Rattle.protocol.specs.declared.BusAddr.{BusAddr}
@@ -31,7 +32,7 @@ settings n = record {
   mode = 9;
   params = record { param_id = 0x06; value = ParamData.Int24 (ℤ.pos 1) } ∷ replicate 31 no_param;
   len = n;
-  radar_cal = record { some = true; value = record { range_mm = 2438; height_mm = 25 } };
+  radar_cal = Some (record { range_mm = 2438; height_mm = 25 });
 }
 
 -- acknowledgements of any command, and echoes of any value

@@ -13,7 +13,9 @@ use Rattle.matching.specs.Promise.{Each}
 use Rattle.matching.proofs.Machine.{Antitone}
 use Rattle.matching.proofs.Called.{Called}
 use Rattle.sequence.specs.Events.{reading, forever}
-use Rattle.sequence.specs.Rows.{State}
+use Rattle.std.specs.Prelude.{is_some}
+use Rattle.sequence.specs.declared.Answer.{Answer}
+use Rattle.sequence.specs.Rows.{State, refused}
 use Rattle.sequence.specs.Calls.{fed_event}
 use Rattle.sequence.proofs.Fed as fed
 use Rattle.sequence.proofs.Standing as rows
@@ -24,8 +26,7 @@ use Rattle.avr_config_steps.specs.declared.AvrConfigStep.TheVariants.{WaitInitGa
 use Rattle.avr_config_steps.specs.Table.{row, next, param_steps, param_step, steps_for, table}
 use Rattle.avr_config_steps.specs.Answers as steps
 use Rattle.avr_config.specs.declared.AvrConfigSequencer.{AvrConfigSequencer}
-use Rattle.avr_config.specs.declared.AvrConfigFed.{AvrConfigFed}
-use Rattle.avr_config.specs.Answers.{running, advance, refused}
+use Rattle.avr_config.specs.Answers.{running, advance}
 use Rattle.avr_config.specs.Calls.{after}
 use Rattle.avr_config_runs.specs.Theorem.{Theorem}
 
@@ -51,14 +52,14 @@ module _ (q : AvrSettings) where
 
   -- the mode, and the calibration if there is one
   abbrev last : List AvrConfigStep
-  last = WaitModeEcho ∷ WaitModeCommitAck ∷ cal_steps q.radar_cal.some
+  last = WaitModeEcho ∷ WaitModeCommitAck ∷ cal_steps (is_some q.radar_cal)
 
   cal_chained : (b : Bool) → (cond b WaitRadarCalEcho Done ≡ get_or (cal_steps b) 0 Done) × Chained (cal_steps b)
   cal_chained true = (refl, (refl, (refl, tt)))
   cal_chained false = (refl, tt)
 
   last_chained : Chained last
-  last_chained = (refl, cal_chained q.radar_cal.some)
+  last_chained = (refl, cal_chained (is_some q.radar_cal))
 
   -- n parameters, from number i on, and those are all
   first_is : (n i : ℕ) → i + n ≡ count q.len → param_step q i ≡ get_or (param_steps n i ++ last) 0 Done
@@ -80,7 +81,7 @@ module _ (q : AvrSettings) where
   cal_others false = tt
 
   params_others : (n i : ℕ) → Each (λ k. is_done k ≡ false) (param_steps n i ++ last)
-  params_others zero i = (refl, (refl, cal_others q.radar_cal.some))
+  params_others zero i = (refl, (refl, cal_others (is_some q.radar_cal)))
   params_others (suc n) i = (refl, (refl, params_others n (suc i)))
 
   -- with n parameters there are 3 + 2n entries, 2 more with a calibration
@@ -88,8 +89,8 @@ module _ (q : AvrSettings) where
   params_length zero i = omega arith
   params_length (suc n) i = omega (arith, params_length n (suc i))
 
-  pub entries : length (table q) ≡ 3 + 2 * count q.len + cond q.radar_cal.some 2 0
-  entries = rw length-map (omega (arith, params_length (count q.len) 0, cal_length q.radar_cal.some))
+  pub entries : length (table q) ≡ 3 + 2 * count q.len + cond (is_some q.radar_cal) 2 0
+  entries = rw length-map (omega (arith, params_length (count q.len) 0, cal_length (is_some q.radar_cal)))
     where
       cal_length : (b : Bool) → length (cal_steps b) ≡ cond b 2 0
       cal_length true = refl
@@ -100,7 +101,7 @@ module _ (q : AvrSettings) where
   abbrev unview : State AvrConfigStep (Unit {0}) → AvrConfigSequencer
   unview s = record { step = s.step; settings = q }
 
-  abbrev seq : AvrConfigFed → AvrConfigSequencer
+  abbrev seq : Answer AvrConfigSequencer → AvrConfigSequencer
   seq f = f.seq
 
   waitless : (k : AvrConfigStep) → (row q k).wait ≡ forever

@@ -1,11 +1,11 @@
 -- THE TABLE of a settings run (01: "Settings run"), made from its settings: the steps in order, what is sent when each begins, and what
 -- ticks it. Definitions only.
 -- Assumes nothing.
-use Rattle.std.specs.Prelude.{ℕ, zero, suc, ◌+◌, false, cond, List, [], ◌∷◌, ◌++◌, map, ltb, get_or}
+use Rattle.std.specs.Prelude.{ℕ, zero, suc, ◌+◌, false, cond, List, [], ◌∷◌, ◌++◌, map, ltb, get_or, Option, Some, None, is_some, option_map}
 use Rattle.protocol.specs.declared.BusAddr.{BusAddr}
 use Rattle.protocol.specs.declared.Command.{Command}
 use Rattle.protocol.specs.declared.Action.{Action}
-use Rattle.protocol.specs.Action.{no_action, send_to}
+use Rattle.protocol.specs.Action.{send_to}
 use Rattle.protocol.specs.Kinds as kinds
 use Rattle.matching.specs.Matching.{Table}
 use Rattle.requests.specs.Requests.{avr_config_cmd}
@@ -36,7 +36,7 @@ param_steps (suc n) i = WaitParamAck i ∷ WaitParamCommitAck i ∷ param_steps 
 abbrev pub steps_for : AvrSettings → List AvrConfigStep
 steps_for s =
     WaitInitGateAck ∷ param_steps (count s.len) 0 ++ WaitModeEcho ∷ WaitModeCommitAck
-    ∷ cond s.radar_cal.some (WaitRadarCalEcho ∷ WaitRadarCalCommitAck ∷ []) []
+    ∷ cond (is_some s.radar_cal) (WaitRadarCalEcho ∷ WaitRadarCalCommitAck ∷ []) []
 
 -- the step at which parameter i is sent, that of the mode if there is none
 abbrev pub param_step : AvrSettings → ℕ → AvrConfigStep
@@ -48,22 +48,22 @@ next s WaitInitGateAck = param_step s 0
 next s (WaitParamAck i) = WaitParamCommitAck i
 next s (WaitParamCommitAck i) = param_step s (i + 1)
 next s WaitModeEcho = WaitModeCommitAck
-next s WaitModeCommitAck = cond s.radar_cal.some WaitRadarCalEcho Done
+next s WaitModeCommitAck = cond (is_some s.radar_cal) WaitRadarCalEcho Done
 next s WaitRadarCalEcho = WaitRadarCalCommitAck
 next s WaitRadarCalCommitAck = Done
 next s Done = Done
 
 -- ---- what is sent when a step begins, and what ticks it
 
-abbrev pub request : AvrSettings → AvrConfigStep → Action
-request s WaitInitGateAck = commit
-request s (WaitParamAck i) = to_avr (Command.ParamValue (get_or s.params i no_param))
-request s (WaitParamCommitAck i) = commit
-request s WaitModeEcho = to_avr (Command.ModeSet (record { mode = s.mode }))
-request s WaitModeCommitAck = commit
-request s WaitRadarCalEcho = to_avr (Command.RadarCal s.radar_cal.value)
-request s WaitRadarCalCommitAck = commit
-request s Done = no_action
+abbrev pub request : AvrSettings → AvrConfigStep → Option Action
+request s WaitInitGateAck = Some commit
+request s (WaitParamAck i) = Some (to_avr (Command.ParamValue (get_or s.params i no_param)))
+request s (WaitParamCommitAck i) = Some commit
+request s WaitModeEcho = Some (to_avr (Command.ModeSet (record { mode = s.mode })))
+request s WaitModeCommitAck = Some commit
+request s WaitRadarCalEcho = option_map (λ c. to_avr (Command.RadarCal c)) s.radar_cal
+request s WaitRadarCalCommitAck = Some commit
+request s Done = None
 
 -- a message of this kind from the Avr, whatever it says; then the request of the step k
 abbrev pub entry : ℕ → AvrSettings → AvrConfigStep → ConfigRow

@@ -2,18 +2,19 @@
 // refusals, are crate avr_config's. The settings never change, so no answer here holds them.
 #![tactic(auto)]
 
-ghost use Rattle.std.specs.Prelude.{◌≡◌, [], ◌+◌, min};
+ghost use Rattle.std.specs.Prelude.{◌≡◌, [], ◌+◌, min, Some};
 ghost use Rattle.protocol.specs.declared.BusAddr.{BusAddr};
 ghost use Rattle.sequence.specs.Events.{fed, plain};
 ghost use Rattle.avr_config_steps.specs.declared.AvrConfigStep.{AvrConfigStep};
-ghost use Rattle.avr_config_steps.specs.Table.{commit, param_step, next};
+ghost use Rattle.avr_config_steps.specs.Table.{commit, param_step, next, to_avr};
 ghost use Rattle.avr_config_steps.specs.Answers.{advance, goes};
 
 use protocol::{Action, BusAddr, Command, Message, ModeSet};
 use requests::avr_config_cmd;
+use sequence::Moved;
 use settings::{AvrSettings, MAX_PARAMS};
 
-#[derive(Clone, Copy)]
+#[derive(Clone, Copy, PartialEq, Eq)]
 pub enum AvrConfigStep {
     WaitInitGateAck,
     WaitParamAck { param_idx: usize },
@@ -25,19 +26,23 @@ pub enum AvrConfigStep {
     Done,
 }
 
-#[derive(Clone, Copy)]
-pub struct AvrConfigMoved {
-    pub action: Action,
-    pub step: AvrConfigStep,
+// A commit, and the step that it begins.
+fn commit(state: AvrConfigStep) -> Moved<AvrConfigStep>
+    ensures { result ≡ record { action = Some commit; state = state } }
+{
+    Moved {
+        action: Some(avr_config_cmd(false)),
+        state,
+    }
 }
 
-// A commit.
-fn commit(step: AvrConfigStep) -> AvrConfigMoved
-    ensures { result ≡ record { action = commit; step = step } }
+// A setting, and the step that it begins.
+fn send(command: Command, state: AvrConfigStep) -> Moved<AvrConfigStep>
+    ensures { result ≡ record { action = Some (to_avr command); state = state } }
 {
-    AvrConfigMoved {
-        action: avr_config_cmd(false),
-        step: step,
+    Moved {
+        action: Some(Action::send(command, BusAddr::Avr)),
+        state,
     }
 }
 
@@ -45,92 +50,64 @@ fn commit(step: AvrConfigStep) -> AvrConfigMoved
 fn next_idx(param_idx: usize) -> usize
     ensures { result ≡ min 32 (param_idx + 1) }
 {
-    if param_idx < MAX_PARAMS {
-        return param_idx + 1;
-    }
-    MAX_PARAMS
+    param_idx.min(MAX_PARAMS - 1) + 1
 }
 
 // The parameter at an index, or the mode after the last.
-fn send_param(settings: AvrSettings, param_idx: usize) -> AvrConfigMoved
+fn send_param(settings: AvrSettings, param_idx: usize) -> Moved<AvrConfigStep>
     ensures { result ≡ goes settings (param_step settings param_idx) }
 {
-    if param_idx < settings.len {
-        if param_idx < MAX_PARAMS {
-            let params = settings.params;
-            let param = params[param_idx];
-            return AvrConfigMoved {
-                action: Action::send(Command::ParamValue(param), BusAddr::Avr),
-                step: AvrConfigStep::WaitParamAck {
-                    param_idx: param_idx,
-                },
-            };
-        }
+    if param_idx < settings.len.min(MAX_PARAMS) {
+        return send(
+            Command::ParamValue(settings.params[param_idx]),
+            AvrConfigStep::WaitParamAck { param_idx },
+        );
     }
     let mode = ModeSet {
         mode: settings.mode,
     };
-    AvrConfigMoved {
-        action: Action::send(Command::ModeSet(mode), BusAddr::Avr),
-        step: AvrConfigStep::WaitModeEcho,
-    }
+    send(Command::ModeSet(mode), AvrConfigStep::WaitModeEcho)
 }
 
 // The calibration, if there is one.
-fn send_radar_cal(settings: AvrSettings) -> AvrConfigMoved
+fn send_radar_cal(settings: AvrSettings) -> Moved<AvrConfigStep>
     ensures { result ≡ goes settings (next settings AvrConfigStep.WaitModeCommitAck) }
 {
-    let cal = settings.radar_cal;
-    if cal.some {
-        let value = cal.value;
-        return AvrConfigMoved {
-            action: Action::send(Command::RadarCal(value), BusAddr::Avr),
-            step: AvrConfigStep::WaitRadarCalEcho,
-        };
-    }
-    AvrConfigMoved {
-        action: Action::none(),
-        step: AvrConfigStep::Done,
+    match settings.radar_cal {
+        Some(cal) => send(Command::RadarCal(cal), AvrConfigStep::WaitRadarCalEcho),
+        None => Moved {
+            action: None,
+            state: AvrConfigStep::Done,
+        },
     }
 }
 
 // An accepted envelope from the AVR.
-pub fn feed(settings: AvrSettings, mut step: AvrConfigStep, message: Message) -> AvrConfigMoved
+pub fn feed(settings: AvrSettings, step: AvrConfigStep, message: Message) -> Moved<AvrConfigStep>
     ensures { result ≡ advance settings step (fed (plain BusAddr.Avr message []) 0) }
 {
-    match step {
-        AvrConfigStep::WaitInitGateAck => match message {
-            Message::ConfigAck(_) => return send_param(settings, 0),
-            _ => {}
+    match (step, message) {
+        (AvrConfigStep::WaitInitGateAck, Message::ConfigAck(_)) => send_param(settings, 0),
+        (AvrConfigStep::WaitParamAck { param_idx }, Message::ConfigAck(_)) => {
+            commit(AvrConfigStep::WaitParamCommitAck { param_idx })
+        }
+        (AvrConfigStep::WaitParamCommitAck { param_idx }, Message::ConfigAck(_)) => {
+            send_param(settings, next_idx(param_idx))
+        }
+        (AvrConfigStep::WaitModeEcho, Message::ModeSet(_)) => {
+            commit(AvrConfigStep::WaitModeCommitAck)
+        }
+        (AvrConfigStep::WaitModeCommitAck, Message::ConfigAck(_)) => send_radar_cal(settings),
+        (AvrConfigStep::WaitRadarCalEcho, Message::RadarCal(_)) => {
+            commit(AvrConfigStep::WaitRadarCalCommitAck)
+        }
+        (AvrConfigStep::WaitRadarCalCommitAck, Message::ConfigAck(_)) => Moved {
+            action: None,
+            state: AvrConfigStep::Done,
         },
-        AvrConfigStep::WaitParamAck { param_idx } => match message {
-            Message::ConfigAck(_) => return commit(AvrConfigStep::WaitParamCommitAck { param_idx }),
-            _ => {}
+        _ => Moved {
+            action: None,
+            state: step,
         },
-        AvrConfigStep::WaitParamCommitAck { param_idx } => match message {
-            Message::ConfigAck(_) => return send_param(settings, next_idx(param_idx)),
-            _ => {}
-        },
-        AvrConfigStep::WaitModeEcho => match message {
-            Message::ModeSet(_) => return commit(AvrConfigStep::WaitModeCommitAck),
-            _ => {}
-        },
-        AvrConfigStep::WaitModeCommitAck => match message {
-            Message::ConfigAck(_) => return send_radar_cal(settings),
-            _ => {}
-        },
-        AvrConfigStep::WaitRadarCalEcho => match message {
-            Message::RadarCal(_) => return commit(AvrConfigStep::WaitRadarCalCommitAck),
-            _ => {}
-        },
-        AvrConfigStep::WaitRadarCalCommitAck => match message {
-            Message::ConfigAck(_) => step = AvrConfigStep::Done,
-            _ => {}
-        },
-        AvrConfigStep::Done => {}
-    }
-    AvrConfigMoved {
-        action: Action::none(),
-        step: step,
     }
 }

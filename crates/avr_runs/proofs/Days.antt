@@ -3,15 +3,15 @@
 -- Assumes nothing.
 use Prim.Native.Nat.{ℕ}
 use mathlib.Core.Path.{◌≡◌, refl, sym, ◌∙◌, ap}
-use mathlib.Core.Bool.{true, false, true≢false}
+use mathlib.Core.Bool.{false, true≢false}
 use mathlib.Core.List.{List, [], ◌∷◌, ◌++◌}
 use lib.IntN.{ℤ}
 use Rattle.protocol.specs.declared.BusAddr.{BusAddr}
 use Rattle.protocol.specs.declared.Message.{Message}
 use Rattle.protocol.specs.declared.ParamData.{ParamData}
-use Rattle.protocol.specs.declared.Outcome.{Outcome}
+use Rattle.protocol.specs.declared.Refusal.{Refusal}
 use Rattle.protocol.specs.declared.AvrStatus.{AvrStatus}
-use Rattle.protocol.specs.Refusals.{outcome}
+use Rattle.std.specs.Prelude.{Some, None, Ok, Err}
 use Rattle.protocol.specs.Stored.{stored}
 use Rattle.device.specs.declared.model.DeviceModel.{DeviceModel}
 use Rattle.matching.specs.Promise.{after_all, events, Matched, First}
@@ -21,10 +21,10 @@ use Rattle.matching.proofs.Leftmost.{leftmost_matching, leftmost_earliest}
 use Rattle.sequence.specs.Events.{Event, checked, reading}
 use Rattle.sequence.specs.Calls.{feed, check, ask}
 use Rattle.avr_table.specs.declared.AvrStep.{AvrStep}
-use Rattle.avr_table.specs.Stores.{Dated, no_factory_cal, no_if_cal, no_avr_config}
+use Rattle.avr_table.specs.Stores.{Dated}
 use Rattle.avr_table.specs.Table.{table}
 use Rattle.avr.specs.declared.AvrSequencer.{AvrSequencer}
-use Rattle.avr.specs.Answers.{begun, finished, no_sync, is_done}
+use Rattle.avr.specs.Answers.{begun, finished, is_done}
 use Rattle.avr.specs.Calls.{AvrCall, into_result, after, event}
 use Rattle.avr_runs.proofs.States.{sequencer}
 use Rattle.avr_runs.proofs.Whole.{anti, right}
@@ -100,22 +100,19 @@ module _ (a b : AvrStatus) where
   pub mevo_done : (state DeviceModel.Mevo mevo_day).state.step ≡ AvrStep.Done
   mevo_done = (right DeviceModel.Mevo mevo_day).ends.done.1 (places DeviceModel.Mevo mevo_day, leftmost_matching {r = run DeviceModel.Mevo mevo_day} refl)
 
-  pub mevo_asked_early : finished (state DeviceModel.Mevo mevo_early) ≡ record { outcome = outcome 12; sync = no_sync }
+  pub mevo_asked_early : finished (state DeviceModel.Mevo mevo_early) ≡ Err Refusal.NotDone
   unfolding stored
   mevo_asked_early = (right DeviceModel.Mevo mevo_day).asked.before mevo_early _ refl (not_yet DeviceModel.Mevo mevo_early refl)
 
   pub mevo_result : finished (state DeviceModel.Mevo mevo_whole)
-      ≡ record {
-        outcome = Outcome.Accepted;
-        sync = record {
-          status = b;
-          dev_info = record { text = stored (50 ∷ []); payload = stored (50 ∷ 0 ∷ []) };
-          config = record { params = ℤ.pos 5 ∷ [] };
-          factory_cal = record { some = true; value = record { payload = stored (7 ∷ []) } };
-          if_cal = no_if_cal;
-          avr_config = record { some = true; value = record { payload = stored (8 ∷ []) } };
-        };
-      }
+      ≡ Ok (record {
+        status = b;
+        dev_info = record { text = stored (50 ∷ []); payload = stored (50 ∷ 0 ∷ []) };
+        config = record { params = ℤ.pos 5 ∷ [] };
+        factory_cal = Some (record { payload = stored (7 ∷ []) });
+        if_cal = None;
+        avr_config = Some (record { payload = stored (8 ∷ []) });
+      })
   mevo_result =
       (right DeviceModel.Mevo mevo_day).asked.from mevo_whole _ refl mevo_whole_lem (places DeviceModel.Mevo mevo_day)
       (earliest DeviceModel.Mevo mevo_day mevo_ticked_off)
@@ -144,21 +141,18 @@ module _ (a b : AvrStatus) where
   pub xi_done : (state DeviceModel.Xi xi_day).state.step ≡ AvrStep.Done
   xi_done = (right DeviceModel.Xi xi_day).ends.done.1 (places DeviceModel.Xi xi_day, leftmost_matching {r = run DeviceModel.Xi xi_day} refl)
 
-  pub xi_asked_early : finished (state DeviceModel.Xi xi_early) ≡ record { outcome = outcome 12; sync = no_sync }
+  pub xi_asked_early : finished (state DeviceModel.Xi xi_early) ≡ Err Refusal.NotDone
   unfolding stored
   xi_asked_early = (right DeviceModel.Xi xi_day).asked.before xi_early _ refl (not_yet DeviceModel.Xi xi_early refl)
 
   pub xi_result : finished (state DeviceModel.Xi xi_whole)
-      ≡ record {
-        outcome = Outcome.Accepted;
-        sync = record {
-          status = b;
-          dev_info = record { text = stored (50 ∷ []); payload = stored (50 ∷ 0 ∷ []) };
-          config = record { params = ℤ.pos 5 ∷ [] };
-          factory_cal = no_factory_cal;
-          if_cal = record { some = true; value = record { payload = stored (9 ∷ []) } };
-          avr_config = no_avr_config;
-        };
-      }
+      ≡ Ok (record {
+        status = b;
+        dev_info = record { text = stored (50 ∷ []); payload = stored (50 ∷ 0 ∷ []) };
+        config = record { params = ℤ.pos 5 ∷ [] };
+        factory_cal = None;
+        if_cal = Some (record { payload = stored (9 ∷ []) });
+        avr_config = None;
+      })
   xi_result =
       (right DeviceModel.Xi xi_day).asked.from xi_whole _ refl xi_whole_lem (places DeviceModel.Xi xi_day) (earliest DeviceModel.Xi xi_day xi_ticked_off)

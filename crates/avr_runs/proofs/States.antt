@@ -11,17 +11,17 @@ use Rattle.protocol.specs.Addr.{byte_of}
 use Rattle.protocol.specs.Kinds.{tag}
 use lib.ListN.{length, get_or}
 use borrow.Author.Tests.{le-ltb, eqb-true}
-use Rattle.protocol.specs.declared.Outcome.{Outcome}
+use Rattle.std.specs.Prelude.{Option, None, Ok}
 use Rattle.device.specs.declared.model.DeviceModel.{DeviceModel}
 use Rattle.device.specs.Model.{has_factory_cal}
 use Rattle.matching.specs.Promise.{Each, clock}
 use Rattle.matching.proofs.Machine as machine
 use Rattle.matching.proofs.Embeds.{length-snoc}
 use Rattle.matching.proofs.Called.{Called, events_rise}
-use Rattle.sequence.specs.declared.OptionInstant.{OptionInstant}
+use Rattle.sequence.specs.declared.Answer.{Answer}
 use Rattle.sequence.specs.Accepted.{none, feed_refusals, check_refusals, feed_outcome, check_outcome}
 use Rattle.sequence.specs.Events.{Event, fed, checked, reading, Wait, forever, nanos}
-use Rattle.sequence.specs.Rows.{reached, State, no_deadline}
+use Rattle.sequence.specs.Rows.{reached, State, refused}
 use Rattle.sequence.specs.Calls.{feed, check, ask}
 use Rattle.sequence.proofs.Acceptance.{feed_accepted, check_accepted, feed_fits, check_fits}
 use Rattle.sequence.proofs.Events.{rises, judge}
@@ -33,24 +33,23 @@ use Rattle.avr_table.specs.Stores.{Dated, Held, env, no_replies, status_poll}
 use Rattle.avr_table.specs.Table.{row, next, steps_for, table}
 use Rattle.avr_steps.specs.Answers as steps
 use Rattle.avr.specs.declared.AvrSequencer.{AvrSequencer}
-use Rattle.avr.specs.declared.AvrFed.{AvrFed}
-use Rattle.avr.specs.Answers.{answered, refused, is_done}
+use Rattle.avr.specs.Answers.{answered, is_done}
 use Rattle.avr.specs.Calls.{AvrCall, into_result, after, event}
 
 abbrev pub E : Type 0
 E = Event Dated
 
 abbrev first : Held
-first = record { replies = no_replies; repoll = no_deadline }
+first = record { replies = no_replies; repoll = None }
 
-abbrev put : OptionInstant → Held → Held
+abbrev put : Option ℕ → Held → Held
 put x y = record { replies = y.replies; repoll = x }
 
 module _ (m : DeviceModel) where
-  abbrev keep : AvrStep → E → OptionInstant → OptionInstant
+  abbrev keep : AvrStep → E → Option ℕ → Option ℕ
   keep k e x = ((row m k).store e (put x first)).repoll
 
-  keeps : (k : AvrStep) (e : E) (x : OptionInstant) (y : Held) → (row m k).store e (put x y) ≡ put (keep k e x) ((row m k).store e y)
+  keeps : (k : AvrStep) (e : E) (x : Option ℕ) (y : Held) → (row m k).store e (put x y) ≡ put (keep k e x) ((row m k).store e y)
   keeps WaitStatus1 e x y = refl
   keeps WaitStatus2 e x y = refl
   keeps WaitDevInfo1 e x y = refl
@@ -95,32 +94,32 @@ module _ (m : DeviceModel) where
   path : rows.Path (row m) (next m) Done (steps_for m) first put keep
   path = record { follows = follows; ended = refl; keeps = keeps }
 
-  abbrev pub standing : List E → OptionInstant → State AvrStep Held
+  abbrev pub standing : List E → Option ℕ → State AvrStep Held
   standing es x = rows.standing (row m) (next m) Done (steps_for m) first put keep es x
 
   -- a repoll is pending only while a status is awaited
-  abbrev pend : List E → OptionInstant → OptionInstant
-  pend es x = cond (ltb (length es) 2) x no_deadline
+  abbrev pend : List E → Option ℕ → Option ℕ
+  pend es x = cond (ltb (length es) 2) x None
 
-  abbrev held : List E → OptionInstant → AvrState
+  abbrev held : List E → Option ℕ → AvrState
   held es x = steps.unview m (standing es x)
 
-  abbrev pub state_of : List E → ℕ → OptionInstant → AvrSequencer
+  abbrev pub state_of : List E → ℕ → Option ℕ → AvrSequencer
   state_of es t x = record { state = held es (pend es x); last = t }
 
   -- what an event that ticks nothing makes of it
-  abbrev aside : E → OptionInstant → OptionInstant
+  abbrev aside : E → Option ℕ → Option ℕ
   aside (fed d t) x = cond (steps.is_nack (fed d t)) (steps.later x t) x
-  aside (checked t) x = cond (reached x t) no_deadline x
+  aside (checked t) x = cond (reached x t) None x
 
-  abbrev pub kept : List E → OptionInstant → E → OptionInstant
-  kept es x e = cond (machine.ticks reading (table m) es e) no_deadline (aside e x)
+  abbrev pub kept : List E → Option ℕ → E → Option ℕ
+  kept es x e = cond (machine.ticks reading (table m) es e) None (aside e x)
 
-  abbrev pub kept_all : List E → OptionInstant → List E → OptionInstant
+  abbrev pub kept_all : List E → Option ℕ → List E → Option ℕ
   kept_all es x [] = x
   kept_all es x (e ∷ l) = kept es x e
 
-  abbrev pub extra : List E → ℕ → OptionInstant → AvrCall → OptionInstant
+  abbrev pub extra : List E → ℕ → Option ℕ → AvrCall → Option ℕ
   extra es t x (feed d u) = kept_all es x (event t (feed d u))
   extra es t x (check u) = kept_all es x (event t (check u))
   extra es t x (ask into_result) = x
@@ -128,7 +127,7 @@ module _ (m : DeviceModel) where
   -- ---- the rows, where the repoll isn't asked
 
   -- on such a state no deadline is stale
-  fresh : (es : List E) (x : OptionInstant) (e : E) → steps.stale m (held es x) e ≡ false
+  fresh : (es : List E) (x : Option ℕ) (e : E) → steps.stale m (held es x) e ≡ false
   fresh es x (fed d t) = refl
   fresh es x (checked t) = go (row m (get_or (steps_for m) (length es) Done)).wait
     where
@@ -136,13 +135,13 @@ module _ (m : DeviceModel) where
       go forever = refl
       go (nanos n) = refl
 
-  advances : (es : List E) (x : OptionInstant) (e : E) → reading e ≤ 18_446_744_071_709_551_615
+  advances : (es : List E) (x : Option ℕ) (e : E) → reading e ≤ 18_446_744_071_709_551_615
       → (steps.advance (held es x) e).state ≡ held (machine.heard reading (table m) es e) (rows.kept (row m) (next m) Done (steps_for m) first put keep es x e)
   advances es x e h =
       rw (fresh es x e)
       (ap (steps.unview m) (rows.moves (row m) (next m) Done (steps_for m) first put keep path es x e (omega arith)))
 
-  keep_clear : (k : AvrStep) (e : E) → keep k e no_deadline ≡ no_deadline
+  keep_clear : (k : AvrStep) (e : E) → keep k e None ≡ None
   keep_clear WaitStatus1 e = refl
   keep_clear WaitStatus2 e = refl
   keep_clear WaitDevInfo1 e = refl
@@ -157,9 +156,9 @@ module _ (m : DeviceModel) where
   keep_clear WaitTimeSync e = refl
   keep_clear Done e = refl
 
-  cond_same : (b : Bool) → cond b no_deadline no_deadline ≡ no_deadline
-  cond_same true = refl
-  cond_same false = refl
+  cond_same : (x : Option ℕ) (b : Bool) → cond b x x ≡ x
+  cond_same x true = refl
+  cond_same x false = refl
 
   and_true : (b : Bool) → b && true ≡ b
   and_true true = refl
@@ -178,7 +177,7 @@ module _ (m : DeviceModel) where
       go false p q = absurd (true≢false (sym q))
   not_both false k c h = refl
 
-  abbrev Goes : List E → OptionInstant → E → Type 0
+  abbrev Goes : List E → Option ℕ → E → Type 0
   Goes es x e = (steps.answered (held es (pend es x)) e).state ≡ held (machine.heard reading (table m) es e) (pend (machine.heard reading (table m) es e) (kept es x e))
 
   -- ---- while a status is awaited
@@ -186,7 +185,7 @@ module _ (m : DeviceModel) where
   record Early (es : List E) : Type 0 where
     small : ltb (length es) 2 ≡ true
     polls : leb (steps.order (get_or (steps_for m) (length es) Done)) 2 ≡ true
-    clears : (e : E) (x : OptionInstant) → keep (get_or (steps_for m) (length es) Done) e x ≡ no_deadline
+    clears : (e : E) (x : Option ℕ) → keep (get_or (steps_for m) (length es) Done) e x ≡ None
     unchecked : (u : ℕ) → machine.ticks reading (table m) es (checked u) ≡ false
     no_nack_lem : (d : Dated) (u : ℕ) → steps.is_nack (fed d u) ≡ true → machine.ticks reading (table m) es (fed d u) ≡ false
 
@@ -208,30 +207,27 @@ module _ (m : DeviceModel) where
     no_nack_lem = λ d u h. not_both (eqb (byte_of d.envelope.src) 0x30) (tag d.envelope.message) _ h;
   }
 
-  module _ (es : List E) (w : Early es) (x : OptionInstant) where
-    pended : (y : OptionInstant) → pend es y ≡ y
-    pended y = rw w.small
-
+  module _ (es : List E) (w : Early es) (x : Option ℕ) where
     awaiting : (e : E) → reading e ≤ 18_446_744_071_709_551_615 → Goes es x e
     awaiting (checked u) h = rw (w.small, w.unchecked u) (go (reached x u) refl)
       where
         go : (b : Bool) → reached x u ≡ b
-            → (cond b (steps.sends status_poll (steps.with_repoll (held es x) no_deadline)) (steps.advance (held es x) (checked u))).state
-            ≡ held es (cond (ltb (length es) 2) (cond b no_deadline x) no_deadline)
+            → (cond b (steps.sends status_poll (steps.with_repoll (held es x) None)) (steps.advance (held es x) (checked u))).state
+            ≡ held es (cond (ltb (length es) 2) (cond b None x) None)
         go true p = rw w.small
         go false p = rw w.small (advances es x (checked u) h ∙ rw (w.unchecked u))
     awaiting (fed d u) h = rw (w.small, w.polls, and_true (steps.is_nack (fed d u))) (go (steps.is_nack (fed d u)) refl)
       where
         rowed : (b : Bool) → machine.ticks reading (table m) es (fed d u) ≡ b
             → held (cond b (es ++ fed d u ∷ []) es) (cond b (keep (get_or (steps_for m) (length es) Done) (fed d u) x) x)
-            ≡ held (cond b (es ++ fed d u ∷ []) es) (pend (cond b (es ++ fed d u ∷ []) es) (cond b no_deadline x))
-        rowed true q = rw (w.clears (fed d u) x, cond_same (ltb (length (es ++ fed d u ∷ [])) 2))
+            ≡ held (cond b (es ++ fed d u ∷ []) es) (pend (cond b (es ++ fed d u ∷ []) es) (cond b None x))
+        rowed true q = rw (w.clears (fed d u) x, cond_same None (ltb (length (es ++ fed d u ∷ [])) 2))
         rowed false q = rw w.small
 
         go : (b : Bool) → steps.is_nack (fed d u) ≡ b
             → (cond b (steps.will_repoll (held es x) (fed d u)) (steps.advance (held es x) (fed d u))).state
             ≡ held (machine.heard reading (table m) es (fed d u))
-            (pend (machine.heard reading (table m) es (fed d u)) (cond (machine.ticks reading (table m) es (fed d u)) no_deadline (cond b (steps.later x u) x)))
+            (pend (machine.heard reading (table m) es (fed d u)) (cond (machine.ticks reading (table m) es (fed d u)) None (cond b (steps.later x u) x)))
         go true p = rw (w.no_nack_lem d u p, w.small)
         go false p = advances es x (fed d u) h ∙ rowed (machine.ticks reading (table m) es (fed d u)) refl
 
@@ -266,37 +262,37 @@ module _ (m : DeviceModel) where
       go false = le-ltb (length es) 2 h
 
   -- the rows make nothing of a repoll that isn't pending
-  none_kept : (es : List E) (e : E) → rows.kept (row m) (next m) Done (steps_for m) first put keep es no_deadline e ≡ no_deadline
-  none_kept es e = rw (keep_clear (get_or (steps_for m) (length es) Done) e) (cond_same (machine.ticks reading (table m) es e))
+  none_kept : (es : List E) (e : E) → rows.kept (row m) (next m) Done (steps_for m) first put keep es None e ≡ None
+  none_kept es e = rw (keep_clear (get_or (steps_for m) (length es) Done) e) (cond_same None (machine.ticks reading (table m) es e))
 
-  afterwards : (es : List E) (x : OptionInstant) (e : E) → 2 ≤ length es → reading e ≤ 18_446_744_071_709_551_615 → Goes es x e
-  afterwards es x (checked u) l h = rw (le-ltb (length es) 2 l, grown es (checked u) l) (advances es no_deadline (checked u) h ∙ ap (held (machine.heard reading (table m) es (checked u))) (none_kept es (checked u)))
+  afterwards : (es : List E) (x : Option ℕ) (e : E) → 2 ≤ length es → reading e ≤ 18_446_744_071_709_551_615 → Goes es x e
+  afterwards es x (checked u) l h = rw (le-ltb (length es) 2 l, grown es (checked u) l) (advances es None (checked u) h ∙ ap (held (machine.heard reading (table m) es (checked u))) (none_kept es (checked u)))
   afterwards es x (fed d u) l h =
       rw (le-ltb (length es) 2 l, grown es (fed d u) l, late_order (length es) l, and_false (steps.is_nack (fed d u)))
-      (advances es no_deadline (fed d u) h ∙ ap (held (machine.heard reading (table m) es (fed d u))) (none_kept es (fed d u)))
+      (advances es None (fed d u) h ∙ ap (held (machine.heard reading (table m) es (fed d u))) (none_kept es (fed d u)))
 
-  goes : (es : List E) (x : OptionInstant) (e : E) → reading e ≤ 18_446_744_071_709_551_615 → Goes es x e
+  goes : (es : List E) (x : Option ℕ) (e : E) → reading e ≤ 18_446_744_071_709_551_615 → Goes es x e
   goes [] x e h = awaiting [] first_status x e h
   goes (a ∷ []) x e h = awaiting (a ∷ []) (second_status a) x e h
   goes (a ∷ b ∷ es) x e h = afterwards (a ∷ b ∷ es) x e (omega arith) h
 
   -- ---- a call
 
-  abbrev Is : List E → ℕ → OptionInstant → AvrFed → List E → Type 0
+  abbrev Is : List E → ℕ → Option ℕ → Answer AvrSequencer → List E → Type 0
   Is es t x f l = f.seq ≡ state_of (machine.ticked_from reading (table m) es l) (clock reading t l) (kept_all es x l)
 
-  one : (es : List E) (t : ℕ) (x : OptionInstant) (c : AvrCall)
+  one : (es : List E) (t : ℕ) (x : Option ℕ) (c : AvrCall)
       → after (state_of es t x) c ≡ state_of (machine.ticked_from reading (table m) es (event t c)) (clock reading t (event t c)) (extra es t x c)
   one es t x (feed d u) =
       let s = state_of es t x in
       let v = d.envelope in
-      judge (Is es t x) (answered Outcome.Accepted s (fed d u)) (refused s) (fed d u) (feed_outcome v.text v.payload t u)
+      judge (Is es t x) (answered (Ok tt) s (fed d u)) (refused s) (fed d u) (feed_outcome v.text v.payload t u)
       (none (feed_refusals v.text v.payload t u)) (feed_accepted v.text v.payload t u)
       (λ p. ap (λ (z : AvrState). record { state = z; last = u }) (goes es x (fed d u) (feed_fits v.text v.payload t u p).time.small))
       (λ o. refl)
   one es t x (check u) =
       let s = state_of es t x in
-      judge (Is es t x) (answered Outcome.Accepted s (checked u)) (refused s) (checked u) (check_outcome t u)
+      judge (Is es t x) (answered (Ok tt) s (checked u)) (refused s) (checked u) (check_outcome t u)
       (none (check_refusals t u)) (check_accepted t u)
       (λ p. ap (λ (z : AvrState). record { state = z; last = u }) (goes es x (checked u) (check_fits t u p).small))
       (λ o. refl)

@@ -7,21 +7,20 @@ use mathlib.Core.Logic.{◌↔◌}
 use mathlib.Core.Bool.{Bool, true, false}
 use mathlib.Core.List.{List, [], ◌∷◌}
 use lib.ListN.{length, get_or}
-use Rattle.protocol.specs.Refusals.{outcome}
+use Rattle.std.specs.Prelude.{Option, None, Ok, Err}
+use Rattle.protocol.specs.declared.Refusal.{Refusal}
 use Rattle.device.specs.declared.model.DeviceModel.{DeviceModel}
 use Rattle.device.specs.Model.{has_factory_cal}
 use Rattle.matching.specs.Promise.{Each}
 use Rattle.matching.proofs.Machine.{Antitone}
 use Rattle.matching.proofs.Spelled.{spelled}
 use Rattle.matching.proofs.Promised as promised
-use Rattle.sequence.specs.declared.OptionInstant.{OptionInstant}
 use Rattle.sequence.specs.Events.{checked}
-use Rattle.sequence.specs.Rows.{no_deadline}
 use Rattle.sequence.specs.Calls.{ask}
 use Rattle.sequence.proofs.Standing as rows
 use Rattle.avr_table.specs.declared.AvrStep.{AvrStep}
 use Rattle.avr_table.specs.Table.{row, next, steps_for, table}
-use Rattle.avr.specs.Answers.{finished, no_sync, is_done}
+use Rattle.avr.specs.Answers.{finished, is_done}
 use Rattle.avr.specs.Calls.{into_result}
 use Rattle.avr_runs.specs.Theorem.{result_of, Theorem}
 use Rattle.avr_runs.proofs.States.{E, state_of, sequencer, others}
@@ -36,16 +35,16 @@ module _ (m : DeviceModel) where
   done_iff : (k : ℕ) → k ≤ length (table m) → (get_or (steps_for m) k AvrStep.Done ≡ AvrStep.Done) ↔ (k ≡ length (table m))
   done_iff = rows.done_iff (row m) (next m) AvrStep.Done (steps_for m) is_done refl (others m)
 
-  abbrev Is : List E → ℕ → OptionInstant → Type 0
-  Is l t x = finished (state_of m l t x) ≡ record { outcome = outcome 0; sync = result_of (has_factory_cal m) (λ k. get_or l (k - 1) nil) }
+  abbrev Is : List E → ℕ → Option ℕ → Type 0
+  Is l t x = finished (state_of m l t x) ≡ Ok (result_of (has_factory_cal m) (λ k. get_or l (k - 1) nil))
 
-  with_cal : (a b c d e f g h i j k l : E) (t : ℕ) (x : OptionInstant) → has_factory_cal m ≡ true → Is (a ∷ b ∷ c ∷ d ∷ e ∷ f ∷ g ∷ h ∷ i ∷ j ∷ k ∷ l ∷ []) t x
+  with_cal : (a b c d e f g h i j k l : E) (t : ℕ) (x : Option ℕ) → has_factory_cal m ≡ true → Is (a ∷ b ∷ c ∷ d ∷ e ∷ f ∷ g ∷ h ∷ i ∷ j ∷ k ∷ l ∷ []) t x
   with_cal a b c d e f g h i j k l t x p = rw p
 
-  without : (a b c d e f g h : E) (t : ℕ) (x : OptionInstant) → has_factory_cal m ≡ false → Is (a ∷ b ∷ c ∷ d ∷ e ∷ f ∷ g ∷ h ∷ []) t x
+  without : (a b c d e f g h : E) (t : ℕ) (x : Option ℕ) → has_factory_cal m ≡ false → Is (a ∷ b ∷ c ∷ d ∷ e ∷ f ∷ g ∷ h ∷ []) t x
   without a b c d e f g h t x p = rw p
 
-  written : (es : List E) (t : ℕ) (x : OptionInstant) → length es ≡ length (table m) → Is es t x
+  written : (es : List E) (t : ℕ) (x : Option ℕ) → length es ≡ length (table m) → Is es t x
   written es t x h = go (has_factory_cal m) refl
     where
       at : ℕ → E
@@ -58,14 +57,14 @@ module _ (m : DeviceModel) where
       go false p =
           subst⁻¹ (λ (l : List E). Is l t x) (spelled nil es 8 (rw p at h)) (without (at 0) (at 1) (at 2) (at 3) (at 4) (at 5) (at 6) (at 7) t x p)
 
-  too_early : (es : List E) (t : ℕ) (x : OptionInstant) → length es < length (table m)
-      → finished (state_of m es t x) ≡ record { outcome = outcome 12; sync = no_sync }
+  too_early : (es : List E) (t : ℕ) (x : Option ℕ) → length es < length (table m)
+      → finished (state_of m es t x) ≡ Err Refusal.NotDone
   too_early es t x h = rw (rows.before_done (row m) (next m) AvrStep.Done (steps_for m) is_done refl (others m) (length es) h)
 
 pub right : Theorem
 right m cs =
     record {
-      ends = promised.ends (nil m) (anti m) (sequencer m) no_deadline (λ s. s.state.step ≡ AvrStep.Done) (λ es t y h. done_iff m (length es) h) cs;
-      asked = promised.answers (nil m) (anti m) (sequencer m) no_deadline (ask into_result) finished (record { outcome = outcome 12; sync = no_sync })
-          (λ f. record { outcome = outcome 0; sync = result_of (has_factory_cal m) f }) (too_early m) (written m) cs;
+      ends = promised.ends (nil m) (anti m) (sequencer m) None (λ s. s.state.step ≡ AvrStep.Done) (λ es t y h. done_iff m (length es) h) cs;
+      asked = promised.answers (nil m) (anti m) (sequencer m) None (ask into_result) finished (Err Refusal.NotDone)
+          (λ f. Ok (result_of (has_factory_cal m) f)) (too_early m) (written m) cs;
     }

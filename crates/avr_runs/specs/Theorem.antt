@@ -1,8 +1,10 @@
 -- THE THEOREM of the AVR start-up: the promise (crate matching, Promise.antt) with its tables and its result. Definitions only; the proof
 -- is proofs/Whole.antt.
 -- Assumes nothing.
-use Rattle.std.specs.Prelude.{ℕ, ◌≡◌, Bool, cond, List}
-use Rattle.protocol.specs.Refusals.{outcome}
+use Rattle.std.specs.Prelude.{ℕ, ◌≡◌, Bool, cond, List, None, Ok, Err}
+use Rattle.std.specs.Option.{unwrap_or}
+use Rattle.protocol.specs.declared.Refusal.{Refusal}
+use Rattle.protocol.specs.Carried.{no_avr_status, no_dev_info, no_config}
 use Rattle.device.specs.declared.model.DeviceModel.{DeviceModel}
 use Rattle.device.specs.Model.{has_factory_cal}
 use Rattle.matching.specs.Promise.{Ends, Answers}
@@ -10,22 +12,22 @@ use Rattle.sequence.specs.Events.{Event, checked, reading}
 use Rattle.sequence.specs.Calls.{ask}
 use Rattle.sequence.specs.Replies.{dev_info_in, config_in}
 use Rattle.avr_table.specs.declared.AvrStep.{AvrStep}
-use Rattle.avr_table.specs.Stores.{Dated, env, status_in, factory_cal_in, if_cal_in, avr_config_in, no_factory_cal, no_if_cal, no_avr_config}
+use Rattle.avr_table.specs.Stores.{Dated, env, status_in, factory_cal_in, if_cal_in, avr_config_in}
 use Rattle.avr_table.specs.Table.{table}
 use Rattle.avr.specs.declared.AvrSync.{AvrSync}
-use Rattle.avr.specs.Answers.{begun, finished, no_sync}
+use Rattle.avr.specs.Answers.{begun, finished}
 use Rattle.avr.specs.Calls.{AvrCall, into_result, after, event}
 
 -- Each record is that of the event at its entry's place (`at k`: of the k-th entry of the model's table), absent where that stores none.
 -- With a factory calibration (Mevo) there are 12 entries, without (Xi) 8.
 abbrev pub result_of : Bool → (ℕ → Event Dated) → AvrSync
 result_of cal at = record {
-  status = (status_in (at 2)).value;
-  dev_info = (dev_info_in env (at 4)).value;
-  config = (config_in env (at 7)).value;
-  factory_cal = cond cal (factory_cal_in (at 8) no_factory_cal) no_factory_cal;
-  if_cal = cond cal (if_cal_in (at 9) no_if_cal) (if_cal_in (at 8) no_if_cal);
-  avr_config = cond cal (avr_config_in (at 10)) no_avr_config;
+  status = unwrap_or (status_in (at 2)) no_avr_status;
+  dev_info = unwrap_or (dev_info_in env (at 4)) no_dev_info;
+  config = unwrap_or (config_in env (at 7)) no_config;
+  factory_cal = cond cal (factory_cal_in (at 8) None) None;
+  if_cal = cond cal (if_cal_in (at 9) None) (if_cal_in (at 8) None);
+  avr_config = cond cal (avr_config_in (at 10)) None;
 }
 
 -- nothing looks past the end of a run; a start-up begins as `new_for` leaves it
@@ -33,7 +35,7 @@ module _ (m : DeviceModel) (cs : List AvrCall) where
   pub record Right : Type 0 where
     pub ends : Ends reading (checked 0) event (begun m).seq after (table m) (λ s. s.state.step ≡ AvrStep.Done) cs
     pub asked : Answers reading (checked 0) event (begun m).seq after (table m) (ask into_result) finished
-        (record { outcome = outcome 12; sync = no_sync }) (λ since at. record { outcome = outcome 0; sync = result_of (has_factory_cal m) at }) cs
+        (Err Refusal.NotDone) (λ since at. Ok (result_of (has_factory_cal m) at)) cs
 
 -- for every model given at new, and every list of calls
 abbrev pub Theorem : Type 0

@@ -2,18 +2,19 @@
 // specs/Table.antt.
 #![tactic(auto)]
 
-ghost use Rattle.std.specs.Prelude.{◌≡◌};
+ghost use Rattle.std.specs.Prelude.{◌≡◌, Some};
 ghost use Rattle.protocol.specs.Action.{send_to};
 ghost use Rattle.protocol.specs.declared.BusAddr.{BusAddr};
+ghost use Rattle.avr_table.specs.Stores.{param_read_req};
 ghost use Rattle.avr_table.specs.Table.{request};
 
 use protocol::{
-    Action, AvrConfigResp, AvrStatus, BusAddr, CalDataResp, CalParamResp, Command,
-    OptionConfigResp, OptionDevInfoResp,
+    Action, AvrConfigResp, AvrStatus, BusAddr, CalDataResp, CalParamResp, Command, ConfigResp,
+    DevInfoResp,
 };
 use requests::{cal_data_req, param_read_req, status_poll, time_sync};
 
-#[derive(Clone, Copy)]
+#[derive(Clone, Copy, PartialEq, Eq)]
 pub enum AvrStep {
     WaitStatus1,
     WaitStatus2,
@@ -32,69 +33,45 @@ pub enum AvrStep {
     Done,
 }
 
-#[repr(C)]
-#[derive(Clone, Copy)]
-pub struct OptionAvrStatus {
-    pub some: bool,
-    pub value: AvrStatus,
-}
-
-#[repr(C)]
-#[derive(Clone, Copy)]
-pub struct OptionCalDataResp {
-    pub some: bool,
-    pub value: CalDataResp,
-}
-
-#[repr(C)]
-#[derive(Clone, Copy)]
-pub struct OptionCalParamResp {
-    pub some: bool,
-    pub value: CalParamResp,
-}
-
-#[repr(C)]
-#[derive(Clone, Copy)]
-pub struct OptionAvrConfigResp {
-    pub some: bool,
-    pub value: AvrConfigResp,
-}
-
 // The stored replies.
-#[repr(C)]
 #[derive(Clone, Copy)]
 pub struct AvrReplies {
-    pub status: OptionAvrStatus,
-    pub dev_info: OptionDevInfoResp,
-    pub config: OptionConfigResp,
-    pub factory_cal: OptionCalDataResp,
-    pub if_cal: OptionCalParamResp,
-    pub avr_config: OptionAvrConfigResp,
+    pub status: Option<AvrStatus>,
+    pub dev_info: Option<DevInfoResp>,
+    pub config: Option<ConfigResp>,
+    pub factory_cal: Option<CalDataResp>,
+    pub if_cal: Option<CalParamResp>,
+    pub avr_config: Option<AvrConfigResp>,
 }
 
-fn ask(command: Command) -> Action
-    ensures { result ≡ send_to BusAddr.Avr command }
+fn ask(command: Command) -> Option<Action>
+    ensures { result ≡ Some (send_to BusAddr.Avr command) }
 {
-    Action::send(command, BusAddr::Avr)
+    Some(Action::send(command, BusAddr::Avr))
 }
 
-// What is asked when a step begins; the wall seconds are for the time alone.
-pub fn request(step: AvrStep, wall: u64) -> Action
+// The request to read this parameter.
+fn read(param_id: u8) -> Option<Action>
+    ensures { result ≡ Some (param_read_req param_id) }
+{
+    Some(param_read_req(param_id, BusAddr::Avr))
+}
+
+// What is asked when a step begins, if anything; the wall seconds are for the time alone.
+pub fn request(step: AvrStep, wall: u64) -> Option<Action>
     ensures { result ≡ request step wall }
 {
     match step {
-        AvrStep::WaitStatus1 => status_poll(false, BusAddr::Avr),
-        AvrStep::WaitStatus2 => status_poll(false, BusAddr::Avr),
-        AvrStep::WaitDevInfo1 => ask(Command::DevInfoReq),
-        AvrStep::WaitDevInfo2 => ask(Command::DevInfoReq),
-        AvrStep::WaitParam0C => param_read_req(0x0C, BusAddr::Avr),
-        AvrStep::WaitParam0D => param_read_req(0x0D, BusAddr::Avr),
+        AvrStep::WaitStatus1 | AvrStep::WaitStatus2 => Some(status_poll(false, BusAddr::Avr)),
+        AvrStep::WaitDevInfo1 | AvrStep::WaitDevInfo2 => ask(Command::DevInfoReq),
+        AvrStep::WaitParam0C => read(0x0C),
+        AvrStep::WaitParam0D => read(0x0D),
         AvrStep::WaitConfig => ask(Command::ConfigQuery),
-        AvrStep::WaitFactoryCal => cal_data_req(),
+        AvrStep::WaitFactoryCal => Some(cal_data_req()),
         AvrStep::WaitIfCal => ask(Command::CalParamReq),
         AvrStep::WaitAvrConfig => ask(Command::AvrConfigQuery),
-        AvrStep::WaitParam64 => param_read_req(0x64, BusAddr::Avr),
-        AvrStep::WaitTimeSync => time_sync(wall),
-        AvrStep::Done => Action::none(),
+        AvrStep::WaitParam64 => read(0x64),
+        AvrStep::WaitTimeSync => Some(time_sync(wall)),
+        AvrStep::Done => None,
     }
 }

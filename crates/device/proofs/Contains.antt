@@ -9,6 +9,7 @@ use native.Mathlib.Nat.{not-suc-le-zero}
 use native.Mathlib.Decide.{dec_le, ℕ_discrete}
 use native.Mathlib.Omega.{arith}
 use lib.Dec.{eqb}
+use Rattle.std.specs.List.{starts_with}
 use lib.ListN.{length, take, drop, length-take, length-drop}
 use borrow.Author.Tests.{eq-eqb, eqb-true}
 use Rattle.device.specs.Search.{StandsAt, Stands, same, stands_at, any_below, contains}
@@ -32,12 +33,21 @@ same_self (x ∷ a) = rw (eq-eqb x x refl) (same_self a)
 pub eq→same : (a b : List ℕ) → a ≡ b → same a b ≡ true
 eq→same a b h = rw (← h) (same_self a)
 
-pub differ : (a b : List ℕ) → (a ≡ b → ⊥) → same a b ≡ false
-differ a b n = go (same a b) refl
+turned : (x y : ℕ) → eqb y x ≡ eqb x y
+turned x y = go (eqb y x) (eqb x y) refl refl
   where
-    go : (v : Bool) → same a b ≡ v → v ≡ false
-    go true p = absurd (n (same→eq a b p))
-    go false p = refl
+    go : (a b : Bool) → eqb y x ≡ a → eqb x y ≡ b → a ≡ b
+    go true true p q = refl
+    go true false p q = absurd (true≢false (sym (eq-eqb x y (sym (eqb-true y x p))) ∙ q))
+    go false true p q = absurd (true≢false (sym (eq-eqb y x (sym (eqb-true x y q))) ∙ p))
+    go false false p q = refl
+
+-- what a slice's `starts_with` computes
+pub starts : (s w : List ℕ) → starts_with eqb s w ≡ same (take (length w) s) w
+starts [] [] = refl
+starts [] (y ∷ w) = refl
+starts (x ∷ s) [] = refl
+starts (x ∷ s) (y ∷ w) = rw (starts s w, turned x y) refl
 
 -- ---- a number below n that passes
 
@@ -64,10 +74,6 @@ any_some (suc n) p h = go (any_some n p) (p n) refl h
     go ih false q e = let w = ih e in (w.0, omega (arith, w.1), w.2)
 
 -- ---- a place
-
--- what is too short is not the needle
-pub too_short : (w s : List ℕ) (i : ℕ) → i ≤ length s → length s < i + length w → stands_at w s i ≡ false
-too_short w s i h k = differ (take (length w) (drop i s)) w (λ e. omega (arith, simp (length-take, length-drop) at (ap length e)))
 
 -- past the end only the empty needle stands, and that stands at the start
 past_the_end : (w s : List ℕ) (i : ℕ) → length s < i → StandsAt w s i → stands_at w s 0 ≡ true

@@ -1,8 +1,8 @@
 -- The model that a device info names, and what a model has (01: "Model and single sends", and the tables of DSP and AVR). Definitions only.
 -- Assumes nothing.
-use Rattle.std.specs.Prelude.{Bool, true, false, cond, List, [], ◌∷◌, ℕ}
+use Rattle.std.specs.Prelude.{Bool, true, false, cond, List, [], ◌∷◌, ℕ, Option, Some, None}
 use Rattle.device.specs.Search.{contains}
-use Rattle.protocol.specs.declared.OptionDevInfoResp.{OptionDevInfoResp}
+use Rattle.protocol.specs.declared.DevInfoResp.{DevInfoResp}
 use Rattle.protocol.specs.Stored.{content}
 use Rattle.device.specs.declared.model.DeviceModel.{DeviceModel}
 use Rattle.device.specs.declared.model.DeviceModel.TheVariants.{Mevo, Xi}
@@ -16,8 +16,9 @@ abbrev pub model_of : List ℕ → DeviceModel
 model_of payload = cond (contains xi_tag payload) Xi Mevo
 
 -- the model that a stored device info names, Mevo before there is one
-abbrev pub model_in : OptionDevInfoResp → DeviceModel
-model_in i = cond i.some (model_of (content i.value.payload)) Mevo
+abbrev pub model_in : Option DevInfoResp → DeviceModel
+model_in (Some i) = model_of (content i.payload)
+model_in None = Mevo
 
 -- a Xi has no camera, and so no Pi
 abbrev pub has_camera : DeviceModel → Bool

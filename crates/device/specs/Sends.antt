@@ -1,9 +1,9 @@
 -- The sends that belong to no sequence (01: "Model and single sends"). Definitions only.
 -- Assumes nothing.
-use Rattle.std.specs.Prelude.{Bool, true, false, cond, ◌&&◌, ◌||◌, List, [], ◌∷◌, ℕ, eqb}
+use Rattle.std.specs.Prelude.{Bool, true, false, cond, ◌&&◌, ◌||◌, List, [], ◌∷◌, ℕ, eqb, Option, Some, None}
 use Rattle.protocol.specs.Addr.{byte_of}
 use Rattle.protocol.specs.Ack.{ack_of}
-use Rattle.protocol.specs.Action.{no_action, send_to}
+use Rattle.protocol.specs.Action.{send_to}
 use Rattle.protocol.specs.declared.BusAddr.{BusAddr}
 use Rattle.protocol.specs.declared.Command.{Command}
 use Rattle.protocol.specs.declared.Action.{Action}
@@ -17,10 +17,11 @@ abbrev pub is_result : ℕ → Bool
 is_result id = eqb id 0xE8 || eqb id 0xD4
 
 -- only a Xi's flight results are acknowledged, and only those from its Avr
-abbrev pub result_ack : DeviceModel → BusAddr → ℕ → Action
-result_ack Mevo src id = no_action
-result_ack Xi src id = cond (eqb (byte_of src) 0x30 && is_result id) (send_to BusAddr.Avr (Command.ConfigAck (ack_of id))) no_action
+abbrev pub result_ack : DeviceModel → BusAddr → ℕ → Option Action
+result_ack Mevo src id = None
+result_ack Xi src id = cond (eqb (byte_of src) 0x30 && is_result id) (Some (send_to BusAddr.Avr (Command.ConfigAck (ack_of id)))) None
 
 -- the polls of a keepalive, in the order of sending; the Pi's only where there is a camera
-abbrev pub keepalive_for : DeviceModel → List Action
-keepalive_for m = status_poll false BusAddr.Dsp ∷ status_poll false BusAddr.Avr ∷ cond (has_camera m) (status_poll true BusAddr.Pi) no_action ∷ []
+abbrev pub keepalive_for : DeviceModel → List (Option Action)
+keepalive_for m =
+    Some (status_poll false BusAddr.Dsp) ∷ Some (status_poll false BusAddr.Avr) ∷ cond (has_camera m) (Some (status_poll true BusAddr.Pi)) None ∷ []

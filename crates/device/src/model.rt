@@ -1,29 +1,16 @@
 // The model of a unit, as its device info names it (src/protocol/handshake.rs).
 ghost use Rattle.std.specs.Prelude.{◌≡◌};
-ghost use Rattle.protocol.specs.Stored.{content};
 ghost use Rattle.device.specs.Model.{model_of, model_in, has_camera, has_factory_cal, has_power_mode};
 
 use crate::search;
-use protocol::{OptionDevInfoResp, Stored};
+use protocol::DevInfoResp;
 
-#[derive(Clone, Copy)]
+#[derive(Clone, Copy, PartialEq, Eq)]
 pub enum DeviceModel {
     // Mevo+ or Mevo Gen2: radar and camera
     Mevo,
     // radar only
     Xi,
-}
-
-// The model that stored bytes name.
-fn of_stored(payload: Stored) -> DeviceModel
-    ensures { result ≡ model_of (content payload) }
-{
-    let bytes = payload.bytes;
-    let mut n = payload.len;
-    if 256 < n {
-        n = 256;
-    }
-    DeviceModel::from_dev_info(&bytes[..n])
 }
 
 impl DeviceModel {
@@ -38,15 +25,13 @@ impl DeviceModel {
     }
 
     // The model that a stored device info names, Mevo before there is one.
-    pub fn from_stored(info: OptionDevInfoResp) -> DeviceModel
+    pub fn from_stored(info: Option<DevInfoResp>) -> DeviceModel
         ensures { result ≡ model_in info }
     {
-        if info.some {
-            let value = info.value;
-            let payload = value.payload;
-            return of_stored(payload);
+        match info {
+            Some(info) => DeviceModel::from_dev_info(info.payload.as_slice()),
+            None => DeviceModel::Mevo,
         }
-        DeviceModel::Mevo
     }
 
     // Whether it has a camera, and so a Pi.
@@ -63,19 +48,13 @@ impl DeviceModel {
     pub fn has_factory_cal(self) -> bool
         ensures { result ≡ has_factory_cal self }
     {
-        let DeviceModel::Mevo = self else {
-            return false;
-        };
-        true
+        matches!(self, DeviceModel::Mevo)
     }
 
     // Whether its DSP has the power-mode step.
     pub fn has_power_mode(self) -> bool
         ensures { result ≡ has_power_mode self }
     {
-        match self {
-            DeviceModel::Mevo => false,
-            DeviceModel::Xi => true,
-        }
+        matches!(self, DeviceModel::Xi)
     }
 }

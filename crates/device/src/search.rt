@@ -6,17 +6,10 @@ ghost use Rattle.device.specs.Search.{contains};
 pub fn contains(s: &[u8], needle: &[u8]) -> bool
     ensures { result ≡ contains needle.now s.now }
 {
-    let m = needle.len();
-    if s.len() < m {
-        return false;
-    }
-    let last = s.len() - m;
-    let mut i = 0;
-    while i <= last {
-        if check::same(&s[i..i + m], needle) {
+    for i in 0..=s.len() {
+        if s[i..].starts_with(needle) {
             return true;
         }
-        i += 1;
     }
     false
 }

@@ -14,49 +14,45 @@ const TYPE_FLIGHT_RESULT_V1: u8 = 0xE8;
 fn is_result(type_id: u8) -> bool
     ensures { result ≡ is_result type_id }
 {
-    if type_id == TYPE_FLIGHT_RESULT_V1 {
-        return true;
-    }
-    type_id == TYPE_FLIGHT_RESULT
+    type_id == TYPE_FLIGHT_RESULT_V1 || type_id == TYPE_FLIGHT_RESULT
 }
 
 // The app's acknowledgement of a flight result, which only the Xi expects.
-pub fn result_ack(model: DeviceModel, src: BusAddr, type_id: u8) -> Action
+pub fn result_ack(model: DeviceModel, src: BusAddr, type_id: u8) -> Option<Action>
     ensures { result ≡ result_ack model src type_id }
 {
     let DeviceModel::Xi = model else {
-        return Action::none();
+        return None;
     };
     let BusAddr::Avr = src else {
-        return Action::none();
+        return None;
     };
-    if is_result(type_id) {
-        Action::send(
-            Command::ConfigAck(ConfigAck::for_result(type_id)),
-            BusAddr::Avr,
-        )
-    } else {
-        Action::none()
+    if !is_result(type_id) {
+        return None;
     }
+    let ack = Command::ConfigAck(ConfigAck::for_result(type_id));
+    Some(Action::send(ack, BusAddr::Avr))
 }
 
 // A keepalive poll on a Mevo.
-pub fn keepalive_actions() -> [Action; 3]
+pub fn keepalive_actions() -> [Option<Action>; 3]
     ensures { result ≡ keepalive_for DeviceModel.Mevo }
 {
     keepalive_actions_for(DeviceModel::Mevo)
 }
 
 // A keepalive poll on this model, in the order of sending; what is not sent is none.
-pub fn keepalive_actions_for(model: DeviceModel) -> [Action; 3]
+pub fn keepalive_actions_for(model: DeviceModel) -> [Option<Action>; 3]
     ensures { result ≡ keepalive_for model }
 {
-    let dsp = status_poll(false, BusAddr::Dsp);
-    let avr = status_poll(false, BusAddr::Avr);
-    if model.has_camera() {
-        let pi = status_poll(true, BusAddr::Pi);
-        return [dsp, avr, pi];
-    }
-    let none = Action::none();
-    [dsp, avr, none]
+    let pi = if model.has_camera() {
+        Some(status_poll(true, BusAddr::Pi))
+    } else {
+        None
+    };
+    [
+        Some(status_poll(false, BusAddr::Dsp)),
+        Some(status_poll(false, BusAddr::Avr)),
+        pi,
+    ]
 }

@@ -1,8 +1,7 @@
 -- THE TABLE of a disarm (01: "Disarm and arm"): its entries in order, each with who ticks it; then the steps at which they are awaited.
 -- Nothing is sent or stored on the way. Definitions only.
 -- Assumes nothing.
-use Rattle.std.specs.Prelude.{ℕ, Bool, ◌&&◌, List, [], ◌∷◌, map}
-use Rattle.protocol.specs.Action.{no_action}
+use Rattle.std.specs.Prelude.{ℕ, Bool, ◌&&◌, List, [], ◌∷◌, map, None}
 use Rattle.protocol.specs.Kinds as kinds
 use Rattle.device.specs.Search.{contains}
 use Rattle.matching.specs.Matching.{Table}
@@ -15,7 +14,7 @@ abbrev pub DisarmRow : Type 0
 DisarmRow = Row Envelope (Unit {0})
 
 abbrev pub entry : (Envelope → Bool) → DisarmRow
-entry p = record { reply = p; wait = forever; send = λ e. no_action; store = λ e y. y }
+entry p = record { reply = p; wait = forever; send = λ e. None; store = λ e y. y }
 
 -- 1. a ConfigAck from the Avr
 abbrev pub entry1 : DisarmRow

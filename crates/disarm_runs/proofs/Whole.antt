@@ -7,23 +7,23 @@ use Rattle.matching.specs.Promise.{Each}
 use Rattle.matching.proofs.Machine.{Antitone}
 use Rattle.matching.proofs.Called.{Called}
 use Rattle.sequence.specs.Events.{reading, forever}
-use Rattle.sequence.specs.Rows.{State}
+use Rattle.sequence.specs.declared.Answer.{Answer}
+use Rattle.sequence.specs.Rows.{State, refused}
 use Rattle.sequence.specs.Calls.{fed_event}
 use Rattle.sequence.proofs.Fed as fed
 use Rattle.sequence.proofs.Standing as rows
 use Rattle.disarm.specs.declared.DisarmStep.{DisarmStep}
 use Rattle.disarm.specs.declared.DisarmStep.TheVariants.{WaitAck, WaitModeReset, WaitStateIdle, Done}
 use Rattle.disarm.specs.declared.DisarmSequencer.{DisarmSequencer}
-use Rattle.disarm.specs.declared.DisarmFed.{DisarmFed}
 use Rattle.disarm.specs.Table.{row, next, steps, table}
-use Rattle.disarm.specs.Answers.{view, advance, refused}
+use Rattle.disarm.specs.Answers.{view, advance}
 use Rattle.disarm.specs.Calls.{after}
 use Rattle.disarm_runs.specs.Theorem.{Theorem}
 
 abbrev unview : State DisarmStep (Unit {0}) → DisarmSequencer
 unview s = record { step = s.step }
 
-abbrev seq : DisarmFed → DisarmSequencer
+abbrev seq : Answer DisarmSequencer → DisarmSequencer
 seq f = f.seq
 
 waitless : (k : DisarmStep) → (row k).wait ≡ forever

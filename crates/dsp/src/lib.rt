@@ -4,17 +4,17 @@
 #![tactic(auto)]
 
 ghost use Rattle.std.specs.Prelude.{◌≡◌};
-ghost use Rattle.protocol.specs.declared.Outcome.{Outcome};
-ghost use Rattle.dsp.specs.Answers.{begun, fed_to, polled, accepted, refused, sync_of, finished, taken};
+ghost use Rattle.dsp.specs.Answers.{begun, fed_to, polled, accepted, sync_of, finished, taken};
 
 use device::model::DeviceModel;
-use dsp_steps::{DspMoved, DspState};
-use dsp_table::{DspReplies, DspStep, OptionDspQueryResp};
+use dsp_steps::DspState;
+use dsp_table::{DspReplies, DspStatusReply, DspStep};
 use protocol::{
-    Action, BusAddr, ConfigResp, DevInfoResp, DspStatus, Message, OptionNack, Outcome,
-    ProdInfoResp, Refusal, Stored,
+    BusAddr, ConfigResp, DevInfoResp, DspQueryResp, DspStatus, Message, Nack, ProdInfoResp,
+    Refusal, Stored,
 };
 use requests::status_poll;
+use sequence::{Answer, Moved, accept_check, accept_feed};
 
 #[derive(Clone, Copy)]
 pub struct DspSequencer {
@@ -29,7 +29,7 @@ pub struct DspSync {
     // of a V46 status
     pub status_payload: Stored,
     // none when the DSP query is rejected or goes unanswered
-    pub hw_info: OptionDspQueryResp,
+    pub hw_info: Option<DspQueryResp>,
     pub dev_info: DevInfoResp,
     pub prod_info: [ProdInfoResp; 3],
     pub config: ConfigResp,
@@ -39,93 +39,51 @@ pub struct DspSync {
 }
 
 #[derive(Clone, Copy)]
-pub struct DspFed {
-    pub outcome: Outcome,
-    pub action: Action,
-    pub seq: DspSequencer,
-}
-
-#[derive(Clone, Copy)]
-pub struct DspFinished {
-    pub outcome: Outcome,
-    pub sync: DspSync,
-}
-
-#[derive(Clone, Copy)]
 pub struct DspTaken {
-    pub refused: OptionNack,
+    pub refused: Option<Nack>,
     pub seq: DspSequencer,
 }
 
-// The result that these replies make.
-fn result(outcome: Outcome, replies: DspReplies) -> DspFinished
-    ensures { result ≡ record { outcome = outcome; sync = sync_of replies } }
-{
-    let status = replies.status;
-    let value = status.value;
-    let status_payload = status.payload;
-    let hw_info = replies.hw_info;
-    let dev_info = replies.dev_info;
-    let info = dev_info.value;
-    let prod_info = replies.prod_info;
-    let config = replies.config;
-    let numbers = config.value;
-    let model = DeviceModel::from_stored(dev_info);
-    DspFinished {
-        outcome: outcome,
-        sync: DspSync {
-            status: value,
-            status_payload: status_payload,
-            hw_info: hw_info,
-            dev_info: info,
-            prod_info: prod_info,
-            config: numbers,
-            model: model,
+// The result that these replies make; where one hasn't come its fields are 0.
+impl From<DspReplies> for DspSync {
+    ghost from_gives = { λ replies r. r ≡ sync_of replies };
+
+    fn from(replies: DspReplies) -> DspSync {
+        let status = replies.status.unwrap_or(DspStatusReply::none());
+        let prod_info = replies.prod_info;
+        DspSync {
+            status: status.status,
+            status_payload: status.payload,
+            hw_info: replies.hw_info,
+            dev_info: replies.dev_info.unwrap_or(DevInfoResp::none()),
+            prod_info,
+            config: replies.config.unwrap_or(ConfigResp::none()),
+            model: DeviceModel::from_stored(replies.dev_info),
             power_mode_unanswered: replies.power_mode_unanswered,
-        },
+        }
     }
 }
 
-fn accepted(moved: DspMoved, now: u64) -> DspFed
+// An accepted call's answer, `now` being its reading.
+fn accepted(moved: Moved<DspState>, now: u64) -> Answer<DspSequencer>
     ensures { result ≡ accepted moved now }
 {
-    let action = moved.action;
-    let state = moved.state;
-    DspFed {
-        outcome: Outcome::Accepted,
-        action: action,
-        seq: DspSequencer {
-            state: state,
-            last: now,
-        },
-    }
+    let seq = DspSequencer {
+        state: moved.state,
+        last: now,
+    };
+    Answer::accepted(moved.action, seq)
 }
 
 impl DspSequencer {
-    fn refuse(self, refusal: Refusal) -> DspFed
-        ensures { result ≡ refused self (Outcome.Refused refusal) }
-    {
-        let action = Action::none();
-        DspFed {
-            outcome: Outcome::Refused(refusal),
-            action: action,
-            seq: self,
-        }
-    }
-
-    pub fn new() -> DspFed
+    pub fn new() -> Answer<DspSequencer>
         ensures { result ≡ begun }
     {
-        let action = status_poll(false, BusAddr::Dsp);
-        let state = DspState::new();
-        DspFed {
-            outcome: Outcome::Accepted,
-            action: action,
-            seq: DspSequencer {
-                state: state,
-                last: 0,
-            },
-        }
+        let seq = DspSequencer {
+            state: DspState::new(),
+            last: 0,
+        };
+        Answer::accepted(Some(status_poll(false, BusAddr::Dsp)), seq)
     }
 
     pub fn feed(
@@ -137,60 +95,40 @@ impl DspSequencer {
         text: &[u8],
         payload: &[u8],
         now: u64,
-    ) -> DspFed
+    ) -> Answer<DspSequencer>
         ensures { result ≡ fed_to self (record { src = src; type_id = type_id; message = message; params = params; text = text.now; payload = payload.now }) now }
     {
-        let outcome = sequence::accept_feed(text, payload, self.last, now);
-        match outcome {
-            Outcome::Accepted => match src {
-                BusAddr::Dsp => {
-                    let state = self.state;
-                    return accepted(
-                        state.feed(type_id, message, params, text, payload, now),
-                        now,
-                    );
-                }
-                _ => {
-                    let mut seq = self;
-                    seq.last = now;
-                    let action = Action::none();
-                    return DspFed {
-                        outcome: Outcome::Accepted,
-                        action: action,
-                        seq: seq,
-                    };
-                }
-            },
-            Outcome::Refused(refusal) => return self.refuse(refusal),
+        if let Err(refusal) = accept_feed(text, payload, self.last, now) {
+            return Answer::refused(refusal, self);
+        }
+        match src {
+            BusAddr::Dsp => {
+                let moved = self
+                    .state
+                    .feed(type_id, message, params, text, payload, now);
+                accepted(moved, now)
+            }
+            _ => Answer::accepted(None, DspSequencer { last: now, ..self }),
         }
     }
 
-    pub fn check_timeout(self, now: u64) -> DspFed
+    pub fn check_timeout(self, now: u64) -> Answer<DspSequencer>
         ensures { result ≡ polled self now }
     {
-        let outcome = sequence::accept_check(self.last, now);
-        match outcome {
-            Outcome::Accepted => {
-                let state = self.state;
-                return accepted(state.check(now), now);
-            }
-            Outcome::Refused(refusal) => return self.refuse(refusal),
+        if let Err(refusal) = accept_check(self.last, now) {
+            return Answer::refused(refusal, self);
         }
+        accepted(self.state.check(now), now)
     }
 
     // The result, once Done.
-    pub fn into_result(self) -> DspFinished
+    pub fn into_result(self) -> Result<DspSync, Refusal>
         ensures { result ≡ finished self }
     {
-        let state = self.state;
-        let step = state.step;
-        match step {
-            DspStep::Done => return result(Outcome::Accepted, state.replies),
-            _ => {
-                let new = DspState::new();
-                return result(Outcome::Refused(Refusal::NotDone), new.replies);
-            }
-        }
+        let DspStep::Done = self.state.step else {
+            return Err(Refusal::NotDone);
+        };
+        Ok(DspSync::from(self.state.replies))
     }
 
     // The nack with which the DSP refused the Xi's power-mode write, once.
@@ -198,16 +136,7 @@ impl DspSequencer {
         ensures { result ≡ taken self }
     {
         let mut seq = self;
-        let mut state = seq.state;
-        let mut replies = state.replies;
-        let refused = replies.refused;
-        let none = OptionNack::none();
-        replies.refused = none;
-        state.replies = replies;
-        seq.state = state;
-        DspTaken {
-            refused: refused,
-            seq: seq,
-        }
+        let refused = seq.state.replies.refused.take();
+        DspTaken { refused, seq }
     }
 }

@@ -6,12 +6,13 @@ use mathlib.Core.Bool.{true, false, true≢false}
 use mathlib.Core.List.{List, [], ◌∷◌, ◌++◌}
 use lib.IntN.{ℤ}
 use lib.ListN.{length}
+use Rattle.std.specs.Prelude.{Some, None, Result, Ok, Err, option_map}
+use Rattle.std.specs.Result.{result_ok}
 use Rattle.protocol.specs.declared.BusAddr.{BusAddr}
 use Rattle.protocol.specs.declared.Message.{Message}
-use Rattle.protocol.specs.declared.Outcome.{Outcome}
+use Rattle.protocol.specs.declared.Refusal.{Refusal}
+use Rattle.protocol.specs.declared.Refusal.TheVariants.{NotDone}
 use Rattle.protocol.specs.declared.DspStatus.{DspStatus}
-use Rattle.protocol.specs.Carried.{no_nack}
-use Rattle.protocol.specs.Refusals.{outcome}
 use Rattle.protocol.specs.Stored.{stored}
 use Rattle.device.specs.declared.model.DeviceModel.{DeviceModel}
 use Rattle.device.specs.Model.{model_of}
@@ -23,11 +24,10 @@ use Rattle.sequence.specs.Events.{Envelope, Event, checked, reading}
 use Rattle.sequence.specs.Calls.{feed, check, ask}
 use Rattle.sequence.proofs.Standing.{table_antitone}
 use Rattle.dsp_table.specs.declared.DspStep.{DspStep}
-use Rattle.dsp_table.specs.Stores.{no_hw_info}
 use Rattle.dsp_table.specs.Table.{row, next, steps_for, table}
 use Rattle.dsp.specs.declared.DspSequencer.{DspSequencer}
-use Rattle.dsp.specs.declared.DspFinished.{DspFinished}
-use Rattle.dsp.specs.Answers.{begun, finished, taken, no_sync, is_done}
+use Rattle.dsp.specs.declared.DspSync.{DspSync}
+use Rattle.dsp.specs.Answers.{begun, finished, taken, is_done}
 use Rattle.dsp.specs.Calls.{DspCall, into_result, take_refused, after, event}
 use Rattle.dsp_runs.specs.Theorem.{opening, payload_in, Names, Right}
 use Rattle.dsp_runs.proofs.States.{sequencer}
@@ -133,34 +133,31 @@ xi_done = xi.ends.done.1 (places DeviceModel.Xi xi_day, leftmost_matching {r = r
 pub xi_first : (ps : List ℕ) × At DeviceModel.Xi xi_day ps
 xi_first = xi.ends.first xi_ticked_off
 
-pub xi_taken_early : (taken (state xi_info)).refused ≡ no_nack
+pub xi_taken_early : (taken (state xi_info)).refused ≡ None
 unfolding stored
 xi_taken_early = xi.took.before xi_info _ refl (not_yet DeviceModel.Xi xi_info xi_info_lem refl)
 
-pub xi_asked_early : finished (state (xi_info ++ ask take_refused ∷ [])) ≡ record { outcome = outcome 12; sync = no_sync }
+pub xi_asked_early : finished (state (xi_info ++ ask take_refused ∷ [])) ≡ Err NotDone
 unfolding stored
 xi_asked_early = xi.asked.before (xi_info ++ ask take_refused ∷ []) _ refl (not_yet DeviceModel.Xi (xi_info ++ ask take_refused ∷ []) xi_asked refl)
 
-pub xi_taken_lem : (taken (state xi_end)).refused ≡ record { some = true; src = BusAddr.Dsp; type_id = 0x94; nack = record { bus_addr = 0x40; acked_cmd = 0x3F } }
+pub xi_taken_lem : (taken (state xi_end)).refused ≡ Some (record { src = BusAddr.Dsp; type_id = 0x94; nack = record { bus_addr = 0x40; acked_cmd = 0x3F } })
 xi_taken_lem = xi.took.from xi_end _ refl xi_end_lem (places DeviceModel.Xi xi_day) (earliest DeviceModel.Xi xi_day xi_ticked_off)
 
-pub xi_taken_again : (taken (state (xi_end ++ ask take_refused ∷ []))).refused ≡ no_nack
+pub xi_taken_again : (taken (state (xi_end ++ ask take_refused ∷ []))).refused ≡ None
 xi_taken_again = xi.took.from (xi_end ++ ask take_refused ∷ []) _ refl xi_end_lem (places DeviceModel.Xi xi_day) (earliest DeviceModel.Xi xi_day xi_ticked_off)
 
 pub xi_result : finished (state xi_taken)
-    ≡ record {
-      outcome = Outcome.Accepted;
-      sync = record {
-        status = DspStatus.V46 (record { state = 1; version = 0x46 });
-        status_payload = stored (7 ∷ 8 ∷ []);
-        hw_info = no_hw_info;
-        dev_info = record { text = stored []; payload = stored (70 ∷ 83 ∷ 32 ∷ 88 ∷ 105 ∷ []) };
-        prod_info = record { text = stored (65 ∷ []) } ∷ record { text = stored (66 ∷ []) } ∷ record { text = stored (67 ∷ []) } ∷ [];
-        config = record { params = ℤ.pos 5 ∷ [] };
-        model = DeviceModel.Xi;
-        power_mode_unanswered = false;
-      };
-    }
+    ≡ Ok (record {
+      status = DspStatus.V46 (record { state = 1; version = 0x46 });
+      status_payload = stored (7 ∷ 8 ∷ []);
+      hw_info = None;
+      dev_info = record { text = stored []; payload = stored (70 ∷ 83 ∷ 32 ∷ 88 ∷ 105 ∷ []) };
+      prod_info = record { text = stored (65 ∷ []) } ∷ record { text = stored (66 ∷ []) } ∷ record { text = stored (67 ∷ []) } ∷ [];
+      config = record { params = ℤ.pos 5 ∷ [] };
+      model = DeviceModel.Xi;
+      power_mode_unanswered = false;
+    })
 xi_result = xi.asked.from xi_taken _ refl xi_end_lem (places DeviceModel.Xi xi_day) (earliest DeviceModel.Xi xi_day xi_ticked_off)
 
 -- ---- a Mevo: the query is not answered; a check ticks it 2 s after the status, and an earlier one doesn't
@@ -194,15 +191,15 @@ mevo_places = refl
 pub mevo_done : (state mevo_day).state.step ≡ DspStep.Done
 mevo_done = mevo.ends.done.1 (places DeviceModel.Mevo mevo_day, leftmost_matching {r = run mevo_day} refl)
 
-pub mevo_asked_early : finished (state mevo_info) ≡ record { outcome = outcome 12; sync = no_sync }
+pub mevo_asked_early : finished (state mevo_info) ≡ Err NotDone
 mevo_asked_early = mevo.asked.before mevo_info _ refl (not_yet DeviceModel.Mevo mevo_info mevo_info_lem refl)
 
-pub mevo_taken : (taken (state mevo_end)).refused ≡ no_nack
+pub mevo_taken : (taken (state mevo_end)).refused ≡ None
 mevo_taken = mevo.took.from mevo_end _ refl mevo_end_lem (places DeviceModel.Mevo mevo_day) (earliest DeviceModel.Mevo mevo_day mevo_ticked_off)
 
-pub mevo_model : (finished (state (mevo_end ++ ask take_refused ∷ []))).sync.model ≡ DeviceModel.Mevo
+pub mevo_model : option_map (λ (y : DspSync). y.model) (result_ok (finished (state (mevo_end ++ ask take_refused ∷ [])))) ≡ Some DeviceModel.Mevo
 mevo_model =
-    ap (λ (f : DspFinished). f.sync.model)
+    ap (λ (f : Result DspSync Refusal). option_map (λ (y : DspSync). y.model) (result_ok f))
     (mevo.asked.from (mevo_end ++ ask take_refused ∷ []) _ refl mevo_end_lem (places DeviceModel.Mevo mevo_day) (earliest DeviceModel.Mevo mevo_day mevo_ticked_off))
 
 -- ---- a unit that names both models: the device info at entry 3 decides, whatever came before it and comes after it

@@ -8,9 +8,8 @@ use mathlib.Core.Bool.{Bool, true, false, cond, true≢false}
 use mathlib.Core.List.{List, [], ◌∷◌, ◌++◌, map, append_assoc, append-nil}
 use lib.ListN.{length, get_or}
 use lib.Seq.{get_or_at}
-use Rattle.protocol.specs.declared.Outcome.{Outcome}
-use Rattle.protocol.specs.declared.Outcome.TheVariants.{Accepted, Refused}
-use Rattle.protocol.specs.Carried.{no_nack}
+use Rattle.std.specs.Prelude.{Option, None, Result, Ok, Err}
+use Rattle.protocol.specs.declared.Refusal.{Refusal}
 use Rattle.protocol.proofs.StoredBytes.{content_stored}
 use Rattle.device.specs.declared.model.DeviceModel.{DeviceModel}
 use Rattle.device.specs.Model.{model_of, model_in, has_power_mode}
@@ -24,7 +23,7 @@ use Rattle.matching.proofs.Spelled.{spelled}
 use Rattle.matching.proofs.Called.{after_append, events-append, called, run_rises}
 use Rattle.sequence.specs.Accepted.{none, feed_refusals, check_refusals, feed_outcome, check_outcome}
 use Rattle.sequence.specs.Events.{Envelope, Event, fed, checked, reading}
-use Rattle.sequence.specs.declared.OptionInstant.{OptionInstant}
+use Rattle.sequence.specs.declared.Moved.{Moved}
 use Rattle.sequence.specs.Rows.{test, passes, ticked, idle}
 use Rattle.sequence.specs.Calls.{feed, check, ask}
 use Rattle.sequence.proofs.Acceptance.{accepted, feed_accepted, check_accepted, feed_fits}
@@ -32,7 +31,6 @@ use Rattle.sequence.proofs.Standing as rows
 use Rattle.dsp_table.specs.declared.DspStep.{DspStep}
 use Rattle.dsp_table.specs.declared.DspStep.TheVariants.{WaitStatus, WaitDspQuery, WaitDevInfo, WaitProdInfo0, WaitProdInfo1, WaitProdInfo2, WaitConfig, WaitPowerMode, Done}
 use Rattle.dsp_steps.specs.declared.DspState.{DspState}
-use Rattle.dsp_steps.specs.declared.DspMoved.{DspMoved}
 use Rattle.dsp_table.specs.Table.{row, next, steps_for, table, entry3}
 use Rattle.dsp_steps.specs.Answers.{view, made, advance, arm_at}
 use Rattle.dsp_steps.proofs.Rows.{at_step}
@@ -135,20 +133,20 @@ record Goes (m : DeviceModel) (f f' : DspSequencer) : Type 0 where
   knows : Knows m f.state
 
 accepts : (m : DeviceModel) (s : DspSequencer) (e : Event Envelope) → Knows m s.state → length (payload_in e) ≤ 256 → Told m s.state e
-    → Goes m (answered (model_in s.state.replies.dev_info) Outcome.Accepted s e).seq (answered m Outcome.Accepted s e).seq
+    → Goes m (answered (model_in s.state.replies.dev_info) (Ok tt) s e).seq (answered m (Ok tt) s e).seq
 accepts m s e h f n =
     let one = same (model_in s.state.replies.dev_info) m s.state e h in
     record {
-      same_seq = ap (λ (w : DspMoved). record { state = w.state; last = reading e }) one;
-      knows = subst⁻¹ (λ (w : DspMoved). Knows m w.state) one (event_knows m s.state e f n h);
+      same_seq = ap (λ (w : Moved DspState). record { state = w.state; last = reading e }) one;
+      knows = subst⁻¹ (λ (w : Moved DspState). Knows m w.state) one (event_knows m s.state e f n h);
     }
 
-by_outcome : (m : DeviceModel) (s : DspSequencer) (e : Event Envelope) → Knows m s.state → (o : Outcome) (b : Bool) → accepted o ≡ b
+by_outcome : (m : DeviceModel) (s : DspSequencer) (e : Event Envelope) → Knows m s.state → (o : Result (Unit {0}) Refusal) (b : Bool) → accepted o ≡ b
     → (b ≡ true → length (payload_in e) ≤ 256) → (b ≡ true → Told m s.state e)
     → Goes m (answered (model_in s.state.replies.dev_info) o s e).seq (answered m o s e).seq
-by_outcome m s e h Accepted true p f n = accepts m s e h (f refl) (n refl)
-by_outcome m s e h Accepted false p f n = absurd (true≢false p)
-by_outcome m s e h (Refused r) b p f n = record { same_seq = refl; knows = h }
+by_outcome m s e h (Ok u) true p f n = accepts m s e h (f refl) (n refl)
+by_outcome m s e h (Ok u) false p f n = absurd (true≢false p)
+by_outcome m s e h (Err r) b p f n = record { same_seq = refl; knows = h }
 
 goes : (m : DeviceModel) (s : DspSequencer) (c : DspCall) → Knows m s.state
     → ((e : Event Envelope) → event s.last c ≡ e ∷ [] → Told m s.state e)
@@ -253,14 +251,14 @@ module _ (m : DeviceModel) (cs : List DspCall) (n : Names m cs) where
       (sym (get_or_at es e [] nil 2 two) ∙ ap (λ (l : List (Event Envelope)). get_or l 2 nil) (sym all ∙ ticked_earliest reading nil opening opening_antitone up f))
       ∙ n (leftmost reading opening (run cs)) f
 
-  passes_tests : (d : OptionInstant) (t : ℕ) (e : Event Envelope) → passes entry3 d e ≡ test entry3 t e
+  passes_tests : (d : Option ℕ) (t : ℕ) (e : Event Envelope) → passes entry3 d e ≡ test entry3 t e
   passes_tests d t (fed v u) = refl
   passes_tests d t (checked u) = refl
 
   told : (pre : List DspCall) (c : DspCall) (post : List DspCall) → cs ≡ pre ++ c ∷ post → Agrees pre
       → (e : Event Envelope) → event (after_all after begun.seq pre).last c ≡ e ∷ [] → Told m (after_all after begun.seq pre).state e
   told pre c post q w e own i p =
-      let is = w.0 ∙ called (sequencer m) no_nack pre in
+      let is = w.0 ∙ called (sequencer m) None pre in
       let t = clock reading 0 (run pre) in
       let now : event t c ≡ e ∷ [] = rw (ap (λ (s : DspSequencer). s.last) is) at own in
       let runs : run cs ≡ run pre ++ e ∷ events reading event (reading e) post = ap run q ∙ events-append reading event 0 pre (c ∷ post) ∙ rw now in

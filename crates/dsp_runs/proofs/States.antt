@@ -7,9 +7,8 @@ use mathlib.Core.Path.{◌≡◌, refl, ap}
 use mathlib.Core.Bool.{Bool, true, false, cond}
 use mathlib.Core.List.{List, [], ◌∷◌}
 use lib.ListN.{length, get_or}
-use Rattle.protocol.specs.declared.OptionNack.{OptionNack}
-use Rattle.protocol.specs.declared.Outcome.{Outcome}
-use Rattle.protocol.specs.Carried.{no_nack}
+use Rattle.std.specs.Prelude.{Option, None, Ok}
+use Rattle.protocol.specs.declared.Nack.{Nack}
 use Rattle.device.specs.declared.model.DeviceModel.{DeviceModel}
 use Rattle.device.specs.Model.{has_power_mode}
 use Rattle.matching.specs.Promise.{Each, clock}
@@ -17,7 +16,8 @@ use Rattle.matching.proofs.Machine.{ticked_from}
 use Rattle.matching.proofs.Called.{Called, events_rise}
 use Rattle.sequence.specs.Accepted.{none, feed_refusals, check_refusals, feed_outcome, check_outcome}
 use Rattle.sequence.specs.Events.{Envelope, Event, fed, checked, reading}
-use Rattle.sequence.specs.Rows.{State}
+use Rattle.sequence.specs.declared.Answer.{Answer}
+use Rattle.sequence.specs.Rows.{State, refused}
 use Rattle.sequence.specs.Calls.{feed, check, ask}
 use Rattle.sequence.proofs.Acceptance.{feed_accepted, check_accepted, feed_fits, check_fits}
 use Rattle.sequence.proofs.Events.{rises, judge}
@@ -29,8 +29,7 @@ use Rattle.dsp_table.specs.Stores.{no_replies}
 use Rattle.dsp_table.specs.Table.{row, next, steps_for, table}
 use Rattle.dsp_steps.specs.Answers.{unview}
 use Rattle.dsp.specs.declared.DspSequencer.{DspSequencer}
-use Rattle.dsp.specs.declared.DspFed.{DspFed}
-use Rattle.dsp.specs.Answers.{answered, refused, taken, with_nack, is_done}
+use Rattle.dsp.specs.Answers.{answered, taken, with_nack, is_done}
 use Rattle.dsp.specs.Calls.{DspCall, into_result, take_refused, event}
 
 -- the sequencer after a call, if it went by the model m
@@ -42,10 +41,10 @@ after_for m s (ask take_refused) = (taken s).seq
 
 module _ (m : DeviceModel) where
   -- the nack that is kept once a row is ticked, x being kept before
-  abbrev pub keep : DspStep → Event Envelope → OptionNack → OptionNack
+  abbrev pub keep : DspStep → Event Envelope → Option Nack → Option Nack
   keep k e x = ((row m k).store e (with_nack x no_replies)).refused
 
-  keeps : (k : DspStep) (e : Event Envelope) (x : OptionNack) (y : DspReplies)
+  keeps : (k : DspStep) (e : Event Envelope) (x : Option Nack) (y : DspReplies)
       → (row m k).store e (with_nack x y) ≡ with_nack (keep k e x) ((row m k).store e y)
   keeps WaitStatus e x y = refl
   keeps WaitDspQuery e x y = refl
@@ -80,44 +79,44 @@ module _ (m : DeviceModel) where
   path : rows.Path (row m) (next m) Done (steps_for m) no_replies with_nack keep
   path = record { follows = follows; ended = refl; keeps = keeps }
 
-  abbrev pub standing : List (Event Envelope) → OptionNack → State DspStep DspReplies
+  abbrev pub standing : List (Event Envelope) → Option Nack → State DspStep DspReplies
   standing es x = rows.standing (row m) (next m) Done (steps_for m) no_replies with_nack keep es x
 
-  abbrev pub state_of : List (Event Envelope) → ℕ → OptionNack → DspSequencer
+  abbrev pub state_of : List (Event Envelope) → ℕ → Option Nack → DspSequencer
   state_of es t x = record { state = unview (standing es x); last = t }
 
   -- the nack that is kept after a call's event, or after none
-  abbrev pub kept_all : List (Event Envelope) → OptionNack → List (Event Envelope) → OptionNack
+  abbrev pub kept_all : List (Event Envelope) → Option Nack → List (Event Envelope) → Option Nack
   kept_all es x [] = x
   kept_all es x (e ∷ l) = rows.kept (row m) (next m) Done (steps_for m) no_replies with_nack keep es x e
 
-  abbrev pub extra : List (Event Envelope) → ℕ → OptionNack → DspCall → OptionNack
+  abbrev pub extra : List (Event Envelope) → ℕ → Option Nack → DspCall → Option Nack
   extra es t x (feed e u) = kept_all es x (event t (feed e u))
   extra es t x (check u) = kept_all es x (event t (check u))
   extra es t x (ask into_result) = x
-  extra es t x (ask take_refused) = no_nack
+  extra es t x (ask take_refused) = None
 
   -- what a call that is the events l makes of the state
-  abbrev Goes : List (Event Envelope) → ℕ → OptionNack → DspFed → List (Event Envelope) → Type 0
+  abbrev Goes : List (Event Envelope) → ℕ → Option Nack → Answer DspSequencer → List (Event Envelope) → Type 0
   Goes es t x f l = f.seq ≡ state_of (ticked_from reading (table m) es l) (clock reading t l) (kept_all es x l)
 
-  goes : (es : List (Event Envelope)) (t : ℕ) (x : OptionNack) (e : Event Envelope) → reading e ≤ 18_446_744_071_709_551_615
-      → Goes es t x (answered m Outcome.Accepted (state_of es t x) e) (e ∷ [])
+  goes : (es : List (Event Envelope)) (t : ℕ) (x : Option Nack) (e : Event Envelope) → reading e ≤ 18_446_744_071_709_551_615
+      → Goes es t x (answered m (Ok tt) (state_of es t x) e) (e ∷ [])
   goes es t x e h =
       ap (λ (s : State DspStep DspReplies). record { state = unview s; last = reading e })
       (rows.moves (row m) (next m) Done (steps_for m) no_replies with_nack keep path es x e (omega arith))
 
-  one : (es : List (Event Envelope)) (t : ℕ) (x : OptionNack) (c : DspCall)
+  one : (es : List (Event Envelope)) (t : ℕ) (x : Option Nack) (c : DspCall)
       → after_for m (state_of es t x) c ≡ state_of (ticked_from reading (table m) es (event t c)) (clock reading t (event t c)) (extra es t x c)
   one es t x (feed e u) =
       let s = state_of es t x in
-      judge (Goes es t x) (answered m Outcome.Accepted s (fed e u)) (refused s) (fed e u) (feed_outcome e.text e.payload t u)
+      judge (Goes es t x) (answered m (Ok tt) s (fed e u)) (refused s) (fed e u) (feed_outcome e.text e.payload t u)
       (none (feed_refusals e.text e.payload t u)) (feed_accepted e.text e.payload t u)
       (λ p. goes es t x (fed e u) (feed_fits e.text e.payload t u p).time.small)
       (λ o. refl)
   one es t x (check u) =
       let s = state_of es t x in
-      judge (Goes es t x) (answered m Outcome.Accepted s (checked u)) (refused s) (checked u) (check_outcome t u)
+      judge (Goes es t x) (answered m (Ok tt) s (checked u)) (refused s) (checked u) (check_outcome t u)
       (none (check_refusals t u)) (check_accepted t u)
       (λ p. goes es t x (checked u) (check_fits t u p).small)
       (λ o. refl)

@@ -8,8 +8,11 @@ use mathlib.Core.Logic.{◌↔◌}
 use mathlib.Core.Bool.{Bool, true, false, cond}
 use mathlib.Core.List.{List, [], ◌∷◌, ◌++◌, nil≢cons, append-nil}
 use lib.ListN.{length, get_or}
-use Rattle.protocol.specs.declared.OptionNack.{OptionNack}
-use Rattle.protocol.specs.Carried.{no_nack}
+use Rattle.std.specs.Prelude.{Option, None, unwrap_or, Result, Ok, Err}
+use Rattle.protocol.specs.declared.Nack.{Nack}
+use Rattle.protocol.specs.declared.Refusal.{Refusal}
+use Rattle.protocol.specs.declared.Refusal.TheVariants.{NotDone}
+use Rattle.protocol.specs.Carried.{no_dev_info, no_config}
 use Rattle.protocol.specs.Refusals.{outcome, lowest}
 use Rattle.device.specs.declared.model.DeviceModel.{DeviceModel}
 use Rattle.device.specs.Model.{has_power_mode}
@@ -22,56 +25,55 @@ use Rattle.matching.proofs.Spelled.{spelled}
 use Rattle.matching.proofs.Promised as promised
 use Rattle.sequence.specs.Accepted.{result_refusals}
 use Rattle.sequence.specs.Events.{Envelope, Event, checked, reading}
+use Rattle.sequence.specs.Rows.{judged}
 use Rattle.sequence.specs.Calls.{feed, check, ask}
 use Rattle.sequence.proofs.Events.{few}
 use Rattle.sequence.proofs.Standing as rows
 use Rattle.dsp_table.specs.declared.DspStep.{DspStep}
-use Rattle.dsp_table.specs.Stores.{nack_in}
+use Rattle.dsp_table.specs.Stores.{nack_in, no_status}
 use Rattle.dsp_table.specs.Table.{row, next, steps_for, table}
 use Rattle.dsp.specs.declared.DspSequencer.{DspSequencer}
-use Rattle.dsp.specs.declared.DspFinished.{DspFinished}
-use Rattle.dsp.specs.Answers.{begun, no_sync, finished, taken, is_done}
+use Rattle.dsp.specs.declared.DspSync.{DspSync}
+use Rattle.dsp.specs.Answers.{begun, finished, taken, is_done}
 use Rattle.dsp.specs.Calls.{DspCall, into_result, take_refused, after, event, takes}
 use Rattle.dsp_runs.specs.Theorem.{result_of, nack_of, Names, Right, Theorem}
 use Rattle.dsp_runs.proofs.States.{state_of, keep, kept_all, extra, sequencer, others}
 use Rattle.dsp_runs.proofs.OneModel.{Knows, knows_done, agree, named, agreed}
 
 -- the result with the model m
-abbrev finished_for : DeviceModel → DspSequencer → DspFinished
+abbrev finished_for : DeviceModel → DspSequencer → Result DspSync Refusal
 finished_for m s =
-    let done = is_done s.state.step in
     let y = s.state.replies in
-    record {
-      outcome = outcome (lowest (result_refusals done));
-      sync = cond done (record {
-        status = y.status.value;
-        status_payload = y.status.payload;
-        hw_info = y.hw_info;
-        dev_info = y.dev_info.value;
-        prod_info = y.prod_info;
-        config = y.config.value;
-        model = m;
-        power_mode_unanswered = y.power_mode_unanswered;
-      }) no_sync;
-    }
+    judged (outcome (lowest (result_refusals (is_done s.state.step))))
+    (Ok (record {
+      status = (unwrap_or y.status no_status).status;
+      status_payload = (unwrap_or y.status no_status).payload;
+      hw_info = y.hw_info;
+      dev_info = unwrap_or y.dev_info no_dev_info;
+      prod_info = y.prod_info;
+      config = unwrap_or y.config no_config;
+      model = m;
+      power_mode_unanswered = y.power_mode_unanswered;
+    }))
+    (λ r. Err r)
 
 -- a call that is no event leaves the nack, but for a taking
-abbrev more : OptionNack → DspCall → OptionNack
+abbrev more : Option Nack → DspCall → Option Nack
 more x (feed e t) = x
 more x (check t) = x
 more x (ask into_result) = x
-more x (ask take_refused) = no_nack
+more x (ask take_refused) = None
 
-cond_same : (b : Bool) (x : OptionNack) → cond b x x ≡ x
+cond_same : (b : Bool) (x : Option Nack) → cond b x x ≡ x
 cond_same true x = refl
 cond_same false x = refl
 
-more_takes : (x : OptionNack) (cs : List DspCall) → after_all more x cs ≡ cond (takes cs) no_nack x
+more_takes : (x : Option Nack) (cs : List DspCall) → after_all more x cs ≡ cond (takes cs) None x
 more_takes x [] = refl
 more_takes x (feed e t ∷ cs) = more_takes x cs
 more_takes x (check t ∷ cs) = more_takes x cs
 more_takes x (ask into_result ∷ cs) = more_takes x cs
-more_takes x (ask take_refused ∷ cs) = more_takes no_nack cs ∙ cond_same (takes cs) no_nack
+more_takes x (ask take_refused ∷ cs) = more_takes None cs ∙ cond_same (takes cs) None
 
 module _ (m : DeviceModel) where
   abbrev nil : Event Envelope
@@ -88,22 +90,22 @@ module _ (m : DeviceModel) where
 
   -- ---- the result, written out
 
-  with_step : (a b c d e f g h : E) (t : ℕ) (x : OptionNack) → has_power_mode m ≡ true
+  with_step : (a b c d e f g h : E) (t : ℕ) (x : Option Nack) → has_power_mode m ≡ true
       → finished_for m (state_of m (a ∷ b ∷ c ∷ d ∷ e ∷ f ∷ g ∷ h ∷ []) t x)
-      ≡ record { outcome = outcome 0; sync = result_of m (λ k. get_or (a ∷ b ∷ c ∷ d ∷ e ∷ f ∷ g ∷ h ∷ []) (k - 1) nil) }
+      ≡ Ok (result_of m (λ k. get_or (a ∷ b ∷ c ∷ d ∷ e ∷ f ∷ g ∷ h ∷ []) (k - 1) nil))
   with_step a b c d e f g h t x p = rw p
 
-  without : (a b c d e f g : E) (t : ℕ) (x : OptionNack) → has_power_mode m ≡ false
+  without : (a b c d e f g : E) (t : ℕ) (x : Option Nack) → has_power_mode m ≡ false
       → finished_for m (state_of m (a ∷ b ∷ c ∷ d ∷ e ∷ f ∷ g ∷ []) t x)
-      ≡ record { outcome = outcome 0; sync = result_of m (λ k. get_or (a ∷ b ∷ c ∷ d ∷ e ∷ f ∷ g ∷ []) (k - 1) nil) }
+      ≡ Ok (result_of m (λ k. get_or (a ∷ b ∷ c ∷ d ∷ e ∷ f ∷ g ∷ []) (k - 1) nil))
   without a b c d e f g t x p = rw p
 
-  written : (es : List E) (t : ℕ) (x : OptionNack) → length es ≡ length (table m)
-      → finished_for m (state_of m es t x) ≡ record { outcome = outcome 0; sync = result_of m (λ k. get_or es (k - 1) nil) }
+  written : (es : List E) (t : ℕ) (x : Option Nack) → length es ≡ length (table m)
+      → finished_for m (state_of m es t x) ≡ Ok (result_of m (λ k. get_or es (k - 1) nil))
   written es t x h = go (has_power_mode m) refl
     where
       Is : List E → Type 0
-      Is l = finished_for m (state_of m l t x) ≡ record { outcome = outcome 0; sync = result_of m (λ k. get_or l (k - 1) nil) }
+      Is l = finished_for m (state_of m l t x) ≡ Ok (result_of m (λ k. get_or l (k - 1) nil))
 
       at : ℕ → E
       at k = get_or es k nil
@@ -112,18 +114,18 @@ module _ (m : DeviceModel) where
       go true p = subst⁻¹ Is (spelled nil es 8 (rw p at h)) (with_step (at 0) (at 1) (at 2) (at 3) (at 4) (at 5) (at 6) (at 7) t x p)
       go false p = subst⁻¹ Is (spelled nil es 7 (rw p at h)) (without (at 0) (at 1) (at 2) (at 3) (at 4) (at 5) (at 6) t x p)
 
-  too_early : (es : List E) (t : ℕ) (x : OptionNack) → length es < length (table m)
-      → finished_for m (state_of m es t x) ≡ record { outcome = outcome 12; sync = no_sync }
+  too_early : (es : List E) (t : ℕ) (x : Option Nack) → length es < length (table m)
+      → finished_for m (state_of m es t x) ≡ Err NotDone
   too_early es t x h = rw (rows.before_done (row m) (next m) DspStep.Done (steps_for m) is_done refl (others m) (length es) h)
 
   -- ---- the nack
 
-  abbrev keeps_for : Bool → E → OptionNack
-  keeps_for true e = nack_in e no_nack
-  keeps_for false e = no_nack
+  abbrev keeps_for : Bool → E → Option Nack
+  keeps_for true e = nack_in e None
+  keeps_for false e = None
 
   -- the seven rows that every model has keep it
-  keep_early : (k : ℕ) (e : E) (x : OptionNack) → k < 7 → keep m (get_or (steps_for m) k DspStep.Done) e x ≡ x
+  keep_early : (k : ℕ) (e : E) (x : Option Nack) → k < 7 → keep m (get_or (steps_for m) k DspStep.Done) e x ≡ x
   keep_early zero e x h = refl
   keep_early (suc zero) e x h = refl
   keep_early (suc (suc zero)) e x h = refl
@@ -140,48 +142,48 @@ module _ (m : DeviceModel) where
       go true p = rw p (omega arith)
       go false p = rw p (omega arith)
 
-  keep_last : (k : ℕ) (e : E) → suc k ≡ length (table m) → keep m (get_or (steps_for m) k DspStep.Done) e no_nack ≡ keeps_for (has_power_mode m) e
+  keep_last : (k : ℕ) (e : E) → suc k ≡ length (table m) → keep m (get_or (steps_for m) k DspStep.Done) e None ≡ keeps_for (has_power_mode m) e
   keep_last k e h = go (has_power_mode m) refl
     where
-      go : (b : Bool) → has_power_mode m ≡ b → keep m (get_or (steps_for m) k DspStep.Done) e no_nack ≡ keeps_for b e
+      go : (b : Bool) → has_power_mode m ≡ b → keep m (get_or (steps_for m) k DspStep.Done) e None ≡ keeps_for b e
       go true p = let i : k ≡ 7 = omega (arith, rw p at h) in rw (i, p)
-      go false p = keep_early k e no_nack (omega (arith, rw p at h))
+      go false p = keep_early k e None (omega (arith, rw p at h))
 
-  quiet : (es l : List E) → length (ticked_from reading (table m) es l) < length (table m) → kept_all m es no_nack l ≡ no_nack
+  quiet : (es l : List E) → length (ticked_from reading (table m) es l) < length (table m) → kept_all m es None l ≡ None
   quiet es [] h = refl
   quiet es (e ∷ l) h = go (ticks reading (table m) es e) refl
     where
-      go : (b : Bool) → ticks reading (table m) es e ≡ b → cond b (keep m (get_or (steps_for m) (length es) DspStep.Done) e no_nack) no_nack ≡ no_nack
+      go : (b : Bool) → ticks reading (table m) es e ≡ b → cond b (keep m (get_or (steps_for m) (length es) DspStep.Done) e None) None ≡ None
       go true p =
-          keep_early (length es) e no_nack
+          keep_early (length es) e None
           (omega (arith, few_rows, length-snoc es e, ticked_from_grows reading (table m) (es ++ e ∷ []) l, rw p at h))
       go false p = refl
 
-  still : (es : List E) (x : OptionNack) (l : List E) → length (table m) ≤ length es → kept_all m es x l ≡ x
+  still : (es : List E) (x : Option Nack) (l : List E) → length (table m) ≤ length es → kept_all m es x l ≡ x
   still es x [] h = refl
   still es x (e ∷ l) h = rw (ticks_none reading (table m) es e h)
 
   hits : (es l : List E) (e : E) → l ≡ e ∷ [] → ticks reading (table m) es e ≡ true → suc (length es) ≡ length (table m)
-      → kept_all m es no_nack l ≡ keeps_for (has_power_mode m) e
-  hits es l e i p h = ap (kept_all m es no_nack) i ∙ ap (λ (b : Bool). cond b (keep m (get_or (steps_for m) (length es) DspStep.Done) e no_nack) no_nack) p ∙ keep_last (length es) e h
+      → kept_all m es None l ≡ keeps_for (has_power_mode m) e
+  hits es l e i p h = ap (kept_all m es None) i ∙ ap (λ (b : Bool). cond b (keep m (get_or (steps_for m) (length es) DspStep.Done) e None) None) p ∙ keep_last (length es) e h
 
-  holds : promised.Holds nil anti (sequencer m) no_nack (keeps_for (has_power_mode m)) more
+  holds : promised.Holds nil anti (sequencer m) None (keeps_for (has_power_mode m)) more
   holds = record { quiet = q; hit = i; settled = s }
     where
-      q : (es : List E) (t : ℕ) (c : DspCall) → length (ticked_from reading (table m) es (event t c)) < length (table m) → extra m es t no_nack c ≡ no_nack
+      q : (es : List E) (t : ℕ) (c : DspCall) → length (ticked_from reading (table m) es (event t c)) < length (table m) → extra m es t None c ≡ None
       q es t (feed e u) h = quiet es (event t (feed e u)) h
       q es t (check u) h = quiet es (event t (check u)) h
       q es t (ask into_result) h = refl
       q es t (ask take_refused) h = refl
 
       i : (es : List E) (t : ℕ) (c : DspCall) (e : E) → event t c ≡ e ∷ [] → ticks reading (table m) es e ≡ true
-          → suc (length es) ≡ length (table m) → extra m es t no_nack c ≡ keeps_for (has_power_mode m) e
+          → suc (length es) ≡ length (table m) → extra m es t None c ≡ keeps_for (has_power_mode m) e
       i es t (feed v u) e h p n = hits es (event t (feed v u)) e h p n
       i es t (check u) e h p n = hits es (event t (check u)) e h p n
       i es t (ask into_result) e h p n = absurd (nil≢cons h)
       i es t (ask take_refused) e h p n = absurd (nil≢cons h)
 
-      s : (es : List E) (t : ℕ) (y : OptionNack) (c : DspCall) → length (table m) ≤ length es → extra m es t y c ≡ more y c
+      s : (es : List E) (t : ℕ) (y : Option Nack) (c : DspCall) → length (table m) ≤ length es → extra m es t y c ≡ more y c
       s es t y (feed e u) h = still es y (event t (feed e u)) h
       s es t y (check u) h = still es y (event t (check u)) h
       s es t y (ask into_result) h = refl
@@ -194,8 +196,8 @@ module _ (m : DeviceModel) where
   given later f = go (has_power_mode m) refl
     where
       go : (b : Bool) → has_power_mode m ≡ b → after_all more (keeps_for (has_power_mode m) (f (length (table m)))) later ≡ nack_of (has_power_mode m) later f
-      go true p = rw p (more_takes (nack_in (f 8) no_nack) later)
-      go false p = rw p (more_takes no_nack later ∙ cond_same (takes later) no_nack)
+      go true p = rw p (more_takes (nack_in (f 8) None) later)
+      go false p = rw p (more_takes None later ∙ cond_same (takes later) None)
 
   -- ---- from the sequencer that goes by m to the one that goes by what it stored
 
@@ -210,16 +212,16 @@ module _ (m : DeviceModel) where
   all cs n =
       record {
         ends = promised.same_ends (table m) cs (λ s. s.state.step ≡ DspStep.Done) (agree m cs n cs [] (sym (append-nil cs))).0
-            (promised.ends nil anti (sequencer m) no_nack (λ s. s.state.step ≡ DspStep.Done) (λ es t y h. done_iff (length es) h) cs);
+            (promised.ends nil anti (sequencer m) None (λ s. s.state.step ≡ DspStep.Done) (λ es t y h. done_iff (length es) h) cs);
         asked = promised.same_answers (table m) cs (ask into_result) finished (finished_for m) _ _ _
             (λ pre post e. let w = agree m cs n pre post e in by_model (after_all after begun.seq pre) w.1 ∙ ap (finished_for m) w.0)
             (λ later f. refl)
-            (promised.answers nil anti (sequencer m) no_nack (ask into_result) (finished_for m) (record { outcome = outcome 12; sync = no_sync })
-            (λ f. record { outcome = outcome 0; sync = result_of m f }) too_early written cs);
-        took = promised.same_answers (table m) cs (ask take_refused) (λ s. (taken s).refused) (λ s. (taken s).refused) no_nack (nack_of (has_power_mode m)) _
+            (promised.answers nil anti (sequencer m) None (ask into_result) (finished_for m) (Err NotDone)
+            (λ f. Ok (result_of m f)) too_early written cs);
+        took = promised.same_answers (table m) cs (ask take_refused) (λ s. (taken s).refused) (λ s. (taken s).refused) None (nack_of (has_power_mode m)) _
             (λ pre post e. ap (λ (s : DspSequencer). (taken s).refused) (agree m cs n pre post e).0)
             given
-            (promised.answers_held nil anti (sequencer m) no_nack holds (few (λ e. e)) some (ask take_refused) (λ s. (taken s).refused) (λ x. x) (λ es t y. refl) cs);
+            (promised.answers_held nil anti (sequencer m) None holds (few (λ e. e)) some (ask take_refused) (λ s. (taken s).refused) (λ x. x) (λ es t y. refl) cs);
       }
 
 pub right : Theorem

@@ -1,11 +1,11 @@
 -- THE THEOREM of the DSP start-up: the promise (crate matching, Promise.antt) with its tables, its result and its nack. Definitions only;
 -- the proof is proofs/Whole.antt.
 -- Assumes nothing.
-use Rattle.std.specs.Prelude.{ℕ, ◌≡◌, Bool, true, false, cond, ◌&&◌, List, [], ◌∷◌}
-use Rattle.protocol.specs.declared.OptionNack.{OptionNack}
-use Rattle.protocol.specs.Carried.{no_nack}
+use Rattle.std.specs.Prelude.{ℕ, ◌≡◌, Bool, true, false, cond, ◌&&◌, List, [], ◌∷◌, Option, None, unwrap_or, Ok, Err}
+use Rattle.protocol.specs.declared.Nack.{Nack}
+use Rattle.protocol.specs.declared.Refusal.TheVariants.{NotDone}
+use Rattle.protocol.specs.Carried.{no_dev_info, no_config}
 use Rattle.protocol.specs.Kinds.{dev_info_resp}
-use Rattle.protocol.specs.Refusals.{outcome}
 use Rattle.device.specs.declared.model.DeviceModel.{DeviceModel}
 use Rattle.device.specs.Model.{model_of, has_power_mode}
 use Rattle.matching.specs.Matching.{Table}
@@ -15,30 +15,30 @@ use Rattle.sequence.specs.Calls.{ask}
 use Rattle.sequence.specs.Replies.{dev_info_in, config_in}
 use Rattle.sequence.specs.Rows.{test}
 use Rattle.dsp_table.specs.declared.DspStep.{DspStep}
-use Rattle.dsp_table.specs.Stores.{from_dsp, status_in, hw_info_in, prod_info_in, nack_in, unanswered_in, no_hw_info}
+use Rattle.dsp_table.specs.Stores.{from_dsp, status_in, hw_info_in, prod_info_in, nack_in, unanswered_in, no_status}
 use Rattle.dsp_table.specs.Table.{entry1, entry2, entry3, table}
 use Rattle.dsp.specs.declared.DspSync.{DspSync}
-use Rattle.dsp.specs.Answers.{begun, finished, taken, no_sync}
+use Rattle.dsp.specs.Answers.{begun, finished, taken}
 use Rattle.dsp.specs.Calls.{DspCall, into_result, take_refused, after, event, takes}
 
 -- each record is that of the event at its entry's place (`at k`: of entry k), absent where that stores none
 abbrev pub result_of : DeviceModel → (ℕ → Event Envelope) → DspSync
 result_of m at = record {
-  status = (status_in (at 1)).value;
-  status_payload = (status_in (at 1)).payload;
-  hw_info = hw_info_in (at 2) no_hw_info;
-  dev_info = (dev_info_in (λ v. v) (at 3)).value;
+  status = (unwrap_or (status_in (at 1)) no_status).status;
+  status_payload = (unwrap_or (status_in (at 1)) no_status).payload;
+  hw_info = hw_info_in (at 2) None;
+  dev_info = unwrap_or (dev_info_in (λ v. v) (at 3)) no_dev_info;
   prod_info = prod_info_in (at 4) ∷ prod_info_in (at 5) ∷ prod_info_in (at 6) ∷ [];
-  config = (config_in (λ v. v) (at 7)).value;
+  config = unwrap_or (config_in (λ v. v) (at 7)) no_config;
   model = m;
   power_mode_unanswered = has_power_mode m && unanswered_in (at 8) false;
 }
 
 -- What a taking gives: without a power-mode step (Mevo) nothing; with it (Xi) the nack that ticked entry 8, if one did and none of the
 -- calls since took it.
-abbrev pub nack_of : Bool → List DspCall → (ℕ → Event Envelope) → OptionNack
-nack_of false since at = no_nack
-nack_of true since at = cond (takes since) no_nack (nack_in (at 8) no_nack)
+abbrev pub nack_of : Bool → List DspCall → (ℕ → Event Envelope) → Option Nack
+nack_of false since at = None
+nack_of true since at = cond (takes since) None (nack_in (at 8) None)
 
 -- entries 1 to 3, with which every model's table begins
 abbrev pub opening : Table (Event Envelope)
@@ -63,9 +63,9 @@ module _ (m : DeviceModel) (cs : List DspCall) where
 
   pub record Right : Type 0 where
     pub ends : Ends reading (checked 0) event begun.seq after (table m) (λ s. s.state.step ≡ DspStep.Done) cs
-    pub asked : Answers reading (checked 0) event begun.seq after (table m) (ask into_result) finished
-        (record { outcome = outcome 12; sync = no_sync }) (λ since at. record { outcome = outcome 0; sync = result_of m at }) cs
-    pub took : Answers reading (checked 0) event begun.seq after (table m) (ask take_refused) (λ s. (taken s).refused) no_nack (nack_of (has_power_mode m)) cs
+    pub asked : Answers reading (checked 0) event begun.seq after (table m) (ask into_result) finished (Err NotDone)
+        (λ since at. Ok (result_of m at)) cs
+    pub took : Answers reading (checked 0) event begun.seq after (table m) (ask take_refused) (λ s. (taken s).refused) None (nack_of (has_power_mode m)) cs
 
 pub record Theorem : Type 0 where
   -- every list of calls names a model; where its device infos agree, it is theirs

@@ -30,7 +30,7 @@ at_step m s e k h = ap (λ (j : DspStep). arm_at (row m j) (next m j) (row m (ne
 
 -- an event that does not pass the row changes nothing
 pub idles : (r : DspRow) (k : DspStep) (r' : DspRow) (s : DspState) (e : Event Envelope) → passes r s.deadline e ≡ false
-    → made (idle (view s)) ≡ arm_at r k r' s e
+    → idle s ≡ arm_at r k r' s e
 idles r k r' s e h = ap made (sym (at_idles r k r' (view s) e h))
 
 -- one that passes ticks it

@@ -1,44 +1,42 @@
 -- What a DSP start-up stores: what is absent, what an event leaves in a field, which entry stores which field; and its sends.
 -- Definitions only.
 -- Assumes nothing.
-use Rattle.std.specs.Prelude.{ℕ, ◌-◌, Bool, true, false, cond, ◌||◌, List, [], eqb, ℤ, set, replicate}
+use Rattle.std.specs.Prelude.{ℕ, ◌-◌, Bool, true, false, cond, ◌||◌, List, [], eqb, ℤ, set, replicate, Option, Some, None}
 use Rattle.protocol.specs.declared.BusAddr.{BusAddr}
 use Rattle.protocol.specs.declared.DspStatus.{DspStatus}
 use Rattle.protocol.specs.declared.DspStatus.TheVariants.{V80, V46}
-use Rattle.protocol.specs.declared.OptionNack.{OptionNack}
+use Rattle.protocol.specs.declared.DspQueryResp.{DspQueryResp}
+use Rattle.protocol.specs.declared.Nack.{Nack}
 use Rattle.protocol.specs.declared.ParamData.{ParamData}
 use Rattle.protocol.specs.declared.ProdInfoResp.{ProdInfoResp}
 use Rattle.protocol.specs.declared.Command.{Command}
 use Rattle.protocol.specs.declared.Action.{Action}
 use Rattle.protocol.specs.Action.{send_to}
-use Rattle.protocol.specs.Carried.{no_nack, no_query_resp, no_dsp_status, carried}
+use Rattle.protocol.specs.Carried.{no_dsp_status, carried}
 use Rattle.protocol.specs.Kinds.{config_nack, dsp_query_resp}
 use Rattle.protocol.specs.Stored.{stored}
 use Rattle.sequence.specs.Events.{Envelope, Event, fed, checked, kind}
-use Rattle.sequence.specs.Replies.{no_dev_info, no_config, dev_info_in, config_in}
-use Rattle.dsp_table.specs.declared.OptionDspStatus.{OptionDspStatus}
-use Rattle.dsp_table.specs.declared.OptionDspQueryResp.{OptionDspQueryResp}
+use Rattle.sequence.specs.Replies.{dev_info_in, config_in}
+use Rattle.dsp_table.specs.declared.DspStatusReply.{DspStatusReply}
 use Rattle.dsp_table.specs.declared.DspReplies.{DspReplies}
 
 -- ---- what is absent
 
-abbrev pub no_status : OptionDspStatus
-no_status = record { some = false; value = no_dsp_status; payload = stored [] }
-
-abbrev pub no_hw_info : OptionDspQueryResp
-no_hw_info = record { some = false; value = no_query_resp }
+-- what stands in a result where no status has come
+abbrev pub no_status : DspStatusReply
+no_status = record { status = no_dsp_status; payload = stored [] }
 
 abbrev pub no_prod_info : ProdInfoResp
 no_prod_info = record { text = stored [] }
 
 abbrev pub no_replies : DspReplies
 no_replies = record {
-  status = no_status;
-  hw_info = no_hw_info;
-  dev_info = no_dev_info;
+  status = None;
+  hw_info = None;
+  dev_info = None;
   prod_info = replicate 3 no_prod_info;
-  config = no_config;
-  refused = no_nack;
+  config = None;
+  refused = None;
   power_mode_unanswered = false;
 }
 
@@ -49,17 +47,17 @@ abbrev pub from_dsp : ℕ → Envelope → Bool
 from_dsp k e = kind 0x40 k e
 
 -- the payload is that of a V46 status; a V80 has none
-abbrev pub status_reply : DspStatus → List ℕ → OptionDspStatus
-status_reply (V80 s) p = record { some = true; value = V80 s; payload = stored [] }
-status_reply (V46 s) p = record { some = true; value = V46 s; payload = stored p }
+abbrev pub status_reply : DspStatus → List ℕ → DspStatusReply
+status_reply (V80 s) p = record { status = V80 s; payload = stored [] }
+status_reply (V46 s) p = record { status = V46 s; payload = stored p }
 
-abbrev pub status_in : Event Envelope → OptionDspStatus
-status_in (fed e t) = status_reply (carried e.message).status e.payload
-status_in (checked t) = no_status
+abbrev pub status_in : Event Envelope → Option DspStatusReply
+status_in (fed e t) = Some (status_reply (carried e.message).status e.payload)
+status_in (checked t) = None
 
 -- only the query reply stores it; else it is as before
-abbrev pub hw_info_in : Event Envelope → OptionDspQueryResp → OptionDspQueryResp
-hw_info_in (fed e t) h = cond (from_dsp dsp_query_resp e) (record { some = true; value = (carried e.message).query }) h
+abbrev pub hw_info_in : Event Envelope → Option DspQueryResp → Option DspQueryResp
+hw_info_in (fed e t) h = cond (from_dsp dsp_query_resp e) (Some (carried e.message).query) h
 hw_info_in (checked t) h = h
 
 abbrev pub prod_info_in : Event Envelope → ProdInfoResp
@@ -67,8 +65,8 @@ prod_info_in (fed e t) = record { text = stored e.text }
 prod_info_in (checked t) = no_prod_info
 
 -- a nack is kept; else what was kept stays
-abbrev pub nack_in : Event Envelope → OptionNack → OptionNack
-nack_in (fed e t) n = cond (from_dsp config_nack e) (record { some = true; src = e.src; type_id = e.type_id; nack = (carried e.message).ack }) n
+abbrev pub nack_in : Event Envelope → Option Nack → Option Nack
+nack_in (fed e t) n = cond (from_dsp config_nack e) (Some (record { src = e.src; type_id = e.type_id; nack = (carried e.message).ack })) n
 nack_in (checked t) n = n
 
 abbrev pub unanswered_in : Event Envelope → Bool → Bool

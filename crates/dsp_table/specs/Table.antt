@@ -1,11 +1,11 @@
 -- THE TABLE of a DSP start-up (01: "DSP result"): its entries in order, each with who ticks it, what is sent then on a model, and what is
 -- stored; then the steps at which they are awaited. Definitions only.
 -- Assumes nothing.
-use Rattle.std.specs.Prelude.{ℕ, ◌+◌, false, cond, List, [], ◌∷◌, map}
+use Rattle.std.specs.Prelude.{ℕ, ◌+◌, false, cond, List, [], ◌∷◌, map, Option, Some, None}
 use Rattle.protocol.specs.declared.BusAddr.{BusAddr}
 use Rattle.protocol.specs.declared.Command.{Command}
 use Rattle.protocol.specs.declared.Action.{Action}
-use Rattle.protocol.specs.Action.{no_action, send_to}
+use Rattle.protocol.specs.Action.{send_to}
 use Rattle.protocol.specs.Kinds.{dsp_status, config_ack, config_nack, config_resp, dsp_query_resp, dev_info_resp, prod_info_resp}
 use Rattle.device.specs.declared.model.DeviceModel.{DeviceModel}
 use Rattle.device.specs.Model.{has_power_mode}
@@ -23,44 +23,44 @@ DspRow = Row Envelope DspReplies
 
 -- 1. a DspStatus; then the DSP is queried
 abbrev pub entry1 : DspRow
-entry1 = record { reply = from_dsp dsp_status; wait = forever; send = λ e. send_to BusAddr.Dsp Command.DspQuery; store = store 1 }
+entry1 = record { reply = from_dsp dsp_status; wait = forever; send = λ e. Some (send_to BusAddr.Dsp Command.DspQuery); store = store 1 }
 
 -- 2. a DspQueryResp, or a ConfigNack of 0x48, or a check 2 s after entry 1; then the device info is asked for
 abbrev pub entry2 : DspRow
 entry2 = record {
   reply = either (from_dsp dsp_query_resp) (acking 0x40 config_nack 0x48);
   wait = nanos 2_000_000_000;
-  send = λ e. send_to BusAddr.Dsp Command.DevInfoReq;
+  send = λ e. Some (send_to BusAddr.Dsp Command.DevInfoReq);
   store = store 2;
 }
 
 -- 3. a DevInfoResp; then the first product info is asked for
 abbrev pub entry3 : DspRow
-entry3 = record { reply = from_dsp dev_info_resp; wait = forever; send = λ e. prod_info_req 0x00; store = store 3 }
+entry3 = record { reply = from_dsp dev_info_resp; wait = forever; send = λ e. Some (prod_info_req 0x00); store = store 3 }
 
 -- 4. to 6. a ProdInfoResp, three times
-abbrev pub prod_info : ℕ → Action → DspRow
+abbrev pub prod_info : ℕ → Option Action → DspRow
 prod_info i a = record { reply = from_dsp prod_info_resp; wait = forever; send = λ e. a; store = store (4 + i) }
 
 abbrev pub entry4 : DspRow
-entry4 = prod_info 0 (prod_info_req 0x08)
+entry4 = prod_info 0 (Some (prod_info_req 0x08))
 
 abbrev pub entry5 : DspRow
-entry5 = prod_info 1 (prod_info_req 0x09)
+entry5 = prod_info 1 (Some (prod_info_req 0x09))
 
 abbrev pub entry6 : DspRow
-entry6 = prod_info 2 (send_to BusAddr.Dsp Command.ConfigQuery)
+entry6 = prod_info 2 (Some (send_to BusAddr.Dsp Command.ConfigQuery))
 
 -- 7. a ConfigResp; then on a Xi the power mode is written, and a Mevo is done
 abbrev pub entry7 : DeviceModel → DspRow
-entry7 m = record { reply = from_dsp config_resp; wait = forever; send = λ e. cond (has_power_mode m) power_mode no_action; store = store 7 }
+entry7 m = record { reply = from_dsp config_resp; wait = forever; send = λ e. cond (has_power_mode m) (Some power_mode) None; store = store 7 }
 
 -- 8. Xi only: a ConfigAck or a ConfigNack of 0x3F, or a check 2 s after entry 7; then it is done
 abbrev pub entry8 : DspRow
 entry8 = record {
   reply = either (acking 0x40 config_ack 0x3F) (acking 0x40 config_nack 0x3F);
   wait = nanos 2_000_000_000;
-  send = λ e. no_action;
+  send = λ e. None;
   store = store 8;
 }
 
@@ -94,16 +94,16 @@ next m WaitPowerMode = Done
 next m Done = Done
 
 -- what is asked when a step begins: what the entry before it sends (the first step begins with a new start-up, which polls)
-abbrev pub request : DspStep → Action
-request WaitStatus = status_poll false BusAddr.Dsp
-request WaitDspQuery = send_to BusAddr.Dsp Command.DspQuery
-request WaitDevInfo = send_to BusAddr.Dsp Command.DevInfoReq
-request WaitProdInfo0 = prod_info_req 0x00
-request WaitProdInfo1 = prod_info_req 0x08
-request WaitProdInfo2 = prod_info_req 0x09
-request WaitConfig = send_to BusAddr.Dsp Command.ConfigQuery
-request WaitPowerMode = power_mode
-request Done = no_action
+abbrev pub request : DspStep → Option Action
+request WaitStatus = Some (status_poll false BusAddr.Dsp)
+request WaitDspQuery = Some (send_to BusAddr.Dsp Command.DspQuery)
+request WaitDevInfo = Some (send_to BusAddr.Dsp Command.DevInfoReq)
+request WaitProdInfo0 = Some (prod_info_req 0x00)
+request WaitProdInfo1 = Some (prod_info_req 0x08)
+request WaitProdInfo2 = Some (prod_info_req 0x09)
+request WaitConfig = Some (send_to BusAddr.Dsp Command.ConfigQuery)
+request WaitPowerMode = Some power_mode
+request Done = None
 
 abbrev pub table : DeviceModel → Table (Event Envelope)
 table m = map (λ k. test (row m k)) (steps_for m)

@@ -3,11 +3,12 @@
 #![tactic(auto)]
 
 ghost use Rattle.std.specs.Prelude.{◌≡◌};
+ghost use Rattle.dsp_table.specs.Stores.{no_status};
 ghost use Rattle.dsp_table.specs.Table.{request};
 
 use protocol::{
-    Action, BusAddr, Command, DspQueryResp, DspStatus, OptionConfigResp, OptionDevInfoResp,
-    OptionNack, ParamData, ParamValue, ProdInfoReq, ProdInfoResp, StatusPoll, Stored,
+    Action, BusAddr, Command, ConfigResp, DevInfoResp, DspQueryResp, DspStatus, Nack, ParamData,
+    ParamValue, ProdInfoReq, ProdInfoResp, StatusPoll, Stored,
 };
 
 // The power mode (param 0x01 of the Xi's DSP), and its value Normal.
@@ -15,7 +16,7 @@ const XI_DSP_POWER_MODE_ID: u8 = 0x01;
 
 const XI_DSP_POWER_MODE_NORMAL: i32 = 1;
 
-#[derive(Clone, Copy)]
+#[derive(Clone, Copy, PartialEq, Eq)]
 pub enum DspStep {
     WaitStatus,
     WaitDspQuery,
@@ -29,61 +30,55 @@ pub enum DspStep {
     Done,
 }
 
-// A status; `payload` is that of a V46.
+// A status; `payload` is that of a V46, and empty beside a V80.
 #[derive(Clone, Copy)]
-pub struct OptionDspStatus {
-    pub some: bool,
-    pub value: DspStatus,
+pub struct DspStatusReply {
+    pub status: DspStatus,
     pub payload: Stored,
 }
 
-#[repr(C)]
-#[derive(Clone, Copy)]
-pub struct OptionDspQueryResp {
-    pub some: bool,
-    pub value: DspQueryResp,
+impl DspStatusReply {
+    // What stands in a result where none has come.
+    pub fn none() -> DspStatusReply
+        ensures { result ≡ no_status }
+    {
+        DspStatusReply {
+            status: DspStatus::none(),
+            payload: Stored::empty(),
+        }
+    }
 }
 
 // The stored replies. Product infos that haven't come are empty.
 #[derive(Clone, Copy)]
 pub struct DspReplies {
-    pub status: OptionDspStatus,
-    pub hw_info: OptionDspQueryResp,
-    pub dev_info: OptionDevInfoResp,
+    pub status: Option<DspStatusReply>,
+    pub hw_info: Option<DspQueryResp>,
+    pub dev_info: Option<DevInfoResp>,
     pub prod_info: [ProdInfoResp; 3],
-    pub config: OptionConfigResp,
+    pub config: Option<ConfigResp>,
     // the nack that ended the power-mode write, not yet taken
-    pub refused: OptionNack,
+    pub refused: Option<Nack>,
     pub power_mode_unanswered: bool,
 }
 
-// The command of a step's request. A new start-up polls (crate dsp); at Done, where nothing is sent, it is that of an absent send.
-fn command(step: DspStep) -> Command
-    ensures { result ≡ (request step).command }
-{
-    match step {
-        DspStep::WaitDspQuery => return Command::DspQuery,
-        DspStep::WaitDevInfo => return Command::DevInfoReq,
-        DspStep::WaitProdInfo0 => return Command::ProdInfoReq(ProdInfoReq { sub_query: 0x00 }),
-        DspStep::WaitProdInfo1 => return Command::ProdInfoReq(ProdInfoReq { sub_query: 0x08 }),
-        DspStep::WaitProdInfo2 => return Command::ProdInfoReq(ProdInfoReq { sub_query: 0x09 }),
-        DspStep::WaitConfig => return Command::ConfigQuery,
-        DspStep::WaitPowerMode => {
-            return Command::ParamValue(ParamValue {
-                param_id: XI_DSP_POWER_MODE_ID,
-                value: ParamData::Int24(XI_DSP_POWER_MODE_NORMAL),
-            });
-        }
-        _ => return Command::StatusPoll(StatusPoll { pi_mode: false }),
-    }
-}
-
-// What is asked when a step begins.
-pub fn request(step: DspStep) -> Action
+// What is asked when a step begins: a new start-up polls (crate dsp), and at Done nothing is sent.
+pub fn request(step: DspStep) -> Option<Action>
     ensures { result ≡ request step }
 {
-    match step {
-        DspStep::Done => return Action::none(),
-        _ => return Action::send(command(step), BusAddr::Dsp),
-    }
+    let command = match step {
+        DspStep::WaitStatus => Command::StatusPoll(StatusPoll { pi_mode: false }),
+        DspStep::WaitDspQuery => Command::DspQuery,
+        DspStep::WaitDevInfo => Command::DevInfoReq,
+        DspStep::WaitProdInfo0 => Command::ProdInfoReq(ProdInfoReq { sub_query: 0x00 }),
+        DspStep::WaitProdInfo1 => Command::ProdInfoReq(ProdInfoReq { sub_query: 0x08 }),
+        DspStep::WaitProdInfo2 => Command::ProdInfoReq(ProdInfoReq { sub_query: 0x09 }),
+        DspStep::WaitConfig => Command::ConfigQuery,
+        DspStep::WaitPowerMode => Command::ParamValue(ParamValue {
+            param_id: XI_DSP_POWER_MODE_ID,
+            value: ParamData::Int24(XI_DSP_POWER_MODE_NORMAL),
+        }),
+        DspStep::Done => return None,
+    };
+    Some(Action::send(command, BusAddr::Dsp))
 }

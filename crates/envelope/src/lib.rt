@@ -11,13 +11,14 @@ ghost use Rattle.dsp.specs.Answers as dsps;
 ghost use Rattle.avr.specs.Answers as avrs;
 ghost use Rattle.envelope.specs.Lent.{lent};
 
-use arm::{ArmFed, ArmSequencer};
-use avr::{AvrFed, AvrSequencer};
-use avr_config::{AvrConfigFed, AvrConfigSequencer};
-use disarm::{DisarmFed, DisarmSequencer};
-use dsp::{DspFed, DspSequencer};
-use pi::{PiFed, PiSequencer};
+use arm::ArmSequencer;
+use avr::AvrSequencer;
+use avr_config::AvrConfigSequencer;
+use disarm::DisarmSequencer;
+use dsp::DspSequencer;
+use pi::PiSequencer;
 use protocol::{BusAddr, Message};
+use sequence::Answer;
 
 #[derive(Clone, Copy)]
 pub struct Envelope<'a> {
@@ -29,31 +30,31 @@ pub struct Envelope<'a> {
     pub payload: &'a [u8],
 }
 
-pub fn disarm(seq: DisarmSequencer, env: Envelope) -> DisarmFed
+pub fn disarm(seq: DisarmSequencer, env: Envelope) -> Answer<DisarmSequencer>
     ensures { result ≡ disarms.fed_to seq (lent env.entry) }
 {
     seq.feed(env.src, env.type_id, env.message, env.text, env.payload)
 }
 
-pub fn arm(seq: ArmSequencer, env: Envelope) -> ArmFed
+pub fn arm(seq: ArmSequencer, env: Envelope) -> Answer<ArmSequencer>
     ensures { result ≡ arms.fed_to seq (lent env.entry) }
 {
     seq.feed(env.src, env.type_id, env.message, env.text, env.payload)
 }
 
-pub fn avr_config(seq: AvrConfigSequencer, env: Envelope) -> AvrConfigFed
+pub fn avr_config(seq: AvrConfigSequencer, env: Envelope) -> Answer<AvrConfigSequencer>
     ensures { result ≡ configs.fed_to seq (lent env.entry) }
 {
     seq.feed(env.src, env.type_id, env.message, env.text, env.payload)
 }
 
-pub fn pi(seq: PiSequencer, env: Envelope) -> PiFed
+pub fn pi(seq: PiSequencer, env: Envelope) -> Answer<PiSequencer>
     ensures { result ≡ pis.fed_to seq (lent env.entry) }
 {
     seq.feed(env.src, env.type_id, env.message, env.text, env.payload)
 }
 
-pub fn dsp(seq: DspSequencer, env: Envelope, now: u64) -> DspFed
+pub fn dsp(seq: DspSequencer, env: Envelope, now: u64) -> Answer<DspSequencer>
     ensures { result ≡ dsps.fed_to seq (lent env.entry) now }
 {
     seq.feed(
@@ -67,7 +68,7 @@ pub fn dsp(seq: DspSequencer, env: Envelope, now: u64) -> DspFed
     )
 }
 
-pub fn avr(seq: AvrSequencer, env: Envelope, now: u64, wall: u64) -> AvrFed
+pub fn avr(seq: AvrSequencer, env: Envelope, now: u64, wall: u64) -> Answer<AvrSequencer>
     ensures { result ≡ avrs.fed_to seq (record { envelope = lent env.entry; wall = wall }) now }
 {
     seq.feed(

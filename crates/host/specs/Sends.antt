@@ -1,13 +1,15 @@
 -- What the sends that belong to no sequence answer to a host. Definitions only.
 -- Assumes nothing.
-use Rattle.std.specs.Prelude.{ℕ, cond, ◌&&◌, List, map, replicate, ℤ}
+use Rattle.std.specs.Prelude.{ℕ, List, map, replicate, ℤ, Option, None, Result, Ok, Err}
+use Rattle.std.specs.Result.{result_unwrap_or}
 use Rattle.protocol.specs.declared.Action.{Action}
-use Rattle.protocol.specs.Action.{no_action}
+use Rattle.protocol.specs.declared.Refusal.{Refusal}
 use Rattle.device.specs.Sends as device
+use Rattle.abi_values.specs.declared.UnknownNumber.{UnknownNumber}
 use Rattle.abi_values.specs.Numbers.{addr_in, model_in}
-use Rattle.abi_messages.specs.declared.SomeEnvelope.{SomeEnvelope}
+use Rattle.abi_messages.specs.declared.Envelope as host
 use Rattle.abi.specs.declared.action.CAction.{CAction}
-use Rattle.abi.specs.Actions.{action_out}
+use Rattle.abi.specs.Actions.{nothing, action_out}
 use Rattle.sequence.specs.Events.{Envelope}
 use Rattle.host.specs.declared.sends.CSent.{CSent}
 use Rattle.host.specs.declared.sends.CKeepalive.{CKeepalive}
@@ -16,24 +18,32 @@ use Rattle.host.specs.declared.sends.CKeepalive.{CKeepalive}
 abbrev pub unknown : ℕ
 unknown = 21
 
--- no send
-abbrev pub nothing : CAction
-nothing = action_out no_action
+-- f of what was handed in, where it is known; else z
+abbrev pub known : {A R : Type 0} → Result A UnknownNumber → (A → R) → R → R
+known (Ok x) f z = f x
+known (Err e) f z = z
 
--- the envelope that a host hands in, with this type id and these numbers of a ConfigResp
-abbrev pub opened : SomeEnvelope → ℕ → List ℤ → List ℕ → List ℕ → Envelope
-opened v id ps text payload = record { src = v.src; type_id = id; message = v.message; params = ps; text = text; payload = payload }
+-- f of the two, where both are
+abbrev pub both : {A B R : Type 0} → Result A UnknownNumber → Result B UnknownNumber → (A → B → R) → R → R
+both r s f z = known r (λ x. known s (λ y. f x y) z) z
+
+-- what an answer sends: nothing beside a refusal
+abbrev pub sent : Result (Option Action) Refusal → CAction
+sent o = action_out (result_unwrap_or o None)
+
+-- the envelope that a host hands in, with these numbers of a ConfigResp
+abbrev pub opened : host.Envelope → List ℤ → List ℕ → List ℕ → Envelope
+opened v ps text payload = record { src = v.src; type_id = v.type_id; message = v.message; params = ps; text = text; payload = payload }
 
 abbrev pub result_ack : ℕ → ℕ → ℕ → CSent
 result_ack model src id =
-    cond ((model_in model).known && (addr_in src).known)
-    (record { refusal = 0; action = action_out (device.result_ack (model_in model).value (addr_in src).value id) })
+    both (model_in model) (addr_in src) (λ m a. record { refusal = 0; action = action_out (device.result_ack m a id) })
     (record { refusal = unknown; action = nothing })
 
-abbrev pub keepalive_out : List Action → List CAction
+abbrev pub keepalive_out : List (Option Action) → List CAction
 keepalive_out xs = map action_out xs
 
 abbrev pub keepalive : ℕ → CKeepalive
 keepalive model =
-    cond (model_in model).known (record { refusal = 0; actions = keepalive_out (device.keepalive_for (model_in model).value) })
+    known (model_in model) (λ m. record { refusal = 0; actions = keepalive_out (device.keepalive_for m) })
     (record { refusal = unknown; actions = replicate 3 nothing })

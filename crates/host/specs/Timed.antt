@@ -1,49 +1,56 @@
 -- What a host's calls of the sequences with a clock answer, as Untimed has it for the others. Definitions only.
 -- Assumes nothing.
-use Rattle.std.specs.Prelude.{ℕ, cond, ◌&&◌, List}
-use Rattle.protocol.specs.Carried.{no_nack}
+use Rattle.std.specs.Prelude.{ℕ, List, None, Result, Ok, Err}
+use Rattle.protocol.specs.declared.Refusal.{Refusal}
+use Rattle.protocol.specs.Refusals.{number}
 use Rattle.device.specs.declared.model.DeviceModel.{DeviceModel}
-use Rattle.dsp.specs.declared.DspFed.{DspFed}
+use Rattle.sequence.specs.declared.Answer.{Answer}
+use Rattle.dsp.specs.declared.DspSequencer.{DspSequencer}
 use Rattle.dsp.specs.declared.DspSync.{DspSync}
 use Rattle.dsp.specs.Answers as dsp
-use Rattle.avr.specs.declared.AvrFed.{AvrFed}
+use Rattle.avr.specs.declared.AvrSequencer.{AvrSequencer}
+use Rattle.avr.specs.declared.AvrSync.{AvrSync}
 use Rattle.avr.specs.Answers as avr
 use Rattle.abi_values.specs.Numbers.{model_in, model_out, refusal_out}
 use Rattle.abi_messages.specs.declared.CEnvelope.{CEnvelope}
 use Rattle.abi_messages.specs.Messages.{envelope_in, dsp_status_out}
-use Rattle.abi.specs.Actions.{action_out}
+use Rattle.abi.specs.Actions.{nothing}
 use Rattle.abi_dsp.specs.declared.CDsp.{CDsp}
 use Rattle.abi_avr.specs.declared.CAvr.{CAvr}
-use Rattle.abi_dsp.specs.State.{nack_out, dsp_in, dsp_out}
-use Rattle.abi_avr.specs.State.{avr_in, avr_out}
+use Rattle.abi_dsp.specs.State.{nack_out, hw_info_out, dsp_in, dsp_out}
+use Rattle.abi_avr.specs.State.{factory_cal_out, if_cal_out, avr_config_out, avr_in, avr_out}
 use Rattle.host.specs.declared.c_dsp.CDspFed.{CDspFed}
 use Rattle.host.specs.declared.c_dsp.CDspSync.{CDspSync}
 use Rattle.host.specs.declared.c_dsp.CDspFinished.{CDspFinished}
 use Rattle.host.specs.declared.c_dsp.CDspTaken.{CDspTaken}
 use Rattle.host.specs.declared.c_avr.CAvrFed.{CAvrFed}
+use Rattle.host.specs.declared.c_avr.CAvrSync.{CAvrSync}
 use Rattle.host.specs.declared.c_avr.CAvrFinished.{CAvrFinished}
-use Rattle.host.specs.Sends.{unknown, nothing, opened}
+use Rattle.host.specs.Sends.{unknown, known, both, sent, opened}
+
+-- A state that a host hands in may have something beside a record that is told as absent, which no call's answer has: it is not looked at,
+-- and is empty in the state that goes back.
 
 -- ---- DSP
 
-abbrev pub dsp_fed : DspFed → CDspFed
-dsp_fed f = record { refusal = refusal_out f.outcome; action = action_out f.action; seq = dsp_out f.seq }
+abbrev pub dsp_fed : Answer DspSequencer → CDspFed
+dsp_fed f = record { refusal = refusal_out f.outcome; action = sent f.outcome; seq = dsp_out f.seq }
 
 abbrev pub dsp_declined : CDsp → CDspFed
 dsp_declined c = record { refusal = unknown; action = nothing; seq = c }
 
 abbrev pub dsp_feed : CDsp → CEnvelope → List ℕ → List ℕ → ℕ → CDspFed
 dsp_feed c e text payload t =
-    cond ((dsp_in c).known && (envelope_in e).known) (dsp_fed (dsp.fed_to (dsp_in c).seq (opened (envelope_in e) e.type_id e.params text payload) t)) (dsp_declined c)
+    both (dsp_in c) (envelope_in e) (λ s v. dsp_fed (dsp.fed_to s (opened v v.params text payload) t)) (dsp_declined c)
 
 abbrev pub dsp_check : CDsp → ℕ → CDspFed
-dsp_check c t = cond (dsp_in c).known (dsp_fed (dsp.polled (dsp_in c).seq t)) (dsp_declined c)
+dsp_check c t = known (dsp_in c) (λ s. dsp_fed (dsp.polled s t)) (dsp_declined c)
 
 abbrev pub dsp_sync : DspSync → CDspSync
 dsp_sync s = record {
   status = dsp_status_out s.status;
   status_payload = s.status_payload;
-  hw_info = s.hw_info;
+  hw_info = hw_info_out s.hw_info;
   dev_info = s.dev_info;
   prod_info = s.prod_info;
   config = s.config;
@@ -51,23 +58,26 @@ dsp_sync s = record {
   power_mode_unanswered = s.power_mode_unanswered;
 }
 
--- beside a refusal stands the result of a new start-up, which is empty
+-- beside a refusal stands what a new start-up has, which is empty
+abbrev pub no_dsp_result : ℕ → CDspFinished
+no_dsp_result n = record { refusal = n; sync = dsp_sync (dsp.sync_of (dsp.begun).seq.state.replies) }
+
+abbrev pub dsp_finished : Result DspSync Refusal → CDspFinished
+dsp_finished (Ok s) = record { refusal = 0; sync = dsp_sync s }
+dsp_finished (Err r) = no_dsp_result (number r)
+
 abbrev pub dsp_result : CDsp → CDspFinished
-dsp_result c =
-    cond (dsp_in c).known
-    (record { refusal = refusal_out (dsp.finished (dsp_in c).seq).outcome; sync = dsp_sync (dsp.finished (dsp_in c).seq).sync })
-    (record { refusal = unknown; sync = dsp_sync (dsp.finished (dsp.begun).seq).sync })
+dsp_result c = known (dsp_in c) (λ s. dsp_finished (dsp.finished s)) (no_dsp_result unknown)
 
 abbrev pub dsp_take : CDsp → CDspTaken
 dsp_take c =
-    cond (dsp_in c).known
-    (record { refusal = 0; refused = nack_out (dsp.taken (dsp_in c).seq).refused; seq = dsp_out (dsp.taken (dsp_in c).seq).seq })
-    (record { refusal = unknown; refused = nack_out no_nack; seq = c })
+    known (dsp_in c) (λ s. record { refusal = 0; refused = nack_out (dsp.taken s).refused; seq = dsp_out (dsp.taken s).seq })
+    (record { refusal = unknown; refused = nack_out None; seq = c })
 
 -- ---- AVR
 
-abbrev pub avr_fed : AvrFed → CAvrFed
-avr_fed f = record { refusal = refusal_out f.outcome; action = action_out f.action; seq = avr_out f.seq }
+abbrev pub avr_fed : Answer AvrSequencer → CAvrFed
+avr_fed f = record { refusal = refusal_out f.outcome; action = sent f.outcome; seq = avr_out f.seq }
 
 abbrev pub avr_declined : CAvr → CAvrFed
 avr_declined c = record { refusal = unknown; action = nothing; seq = c }
@@ -80,18 +90,31 @@ abbrev pub avr_unknown : CAvr
 avr_unknown = at255 (avr_out (avr.begun DeviceModel.Mevo).seq)
 
 abbrev pub avr_new_for : ℕ → CAvrFed
-avr_new_for model = cond (model_in model).known (avr_fed (avr.begun (model_in model).value)) (avr_declined avr_unknown)
+avr_new_for model = known (model_in model) (λ m. avr_fed (avr.begun m)) (avr_declined avr_unknown)
 
 abbrev pub avr_feed : CAvr → CEnvelope → List ℕ → List ℕ → ℕ → ℕ → CAvrFed
 avr_feed c e text payload t wall =
-    cond ((avr_in c).known && (envelope_in e).known)
-    (avr_fed (avr.fed_to (avr_in c).seq (record { envelope = opened (envelope_in e) e.type_id e.params text payload; wall = wall }) t)) (avr_declined c)
+    both (avr_in c) (envelope_in e) (λ s v. avr_fed (avr.fed_to s (record { envelope = opened v v.params text payload; wall = wall }) t)) (avr_declined c)
 
 abbrev pub avr_check : CAvr → ℕ → CAvrFed
-avr_check c t = cond (avr_in c).known (avr_fed (avr.polled (avr_in c).seq t)) (avr_declined c)
+avr_check c t = known (avr_in c) (λ s. avr_fed (avr.polled s t)) (avr_declined c)
+
+abbrev pub avr_sync : AvrSync → CAvrSync
+avr_sync s = record {
+  status = s.status;
+  dev_info = s.dev_info;
+  config = s.config;
+  factory_cal = factory_cal_out s.factory_cal;
+  if_cal = if_cal_out s.if_cal;
+  avr_config = avr_config_out s.avr_config;
+}
+
+abbrev pub no_avr_result : ℕ → CAvrFinished
+no_avr_result n = record { refusal = n; sync = avr_sync (avr.sync_of (avr.begun DeviceModel.Mevo).seq.state.replies) }
+
+abbrev pub avr_finished : Result AvrSync Refusal → CAvrFinished
+avr_finished (Ok s) = record { refusal = 0; sync = avr_sync s }
+avr_finished (Err r) = no_avr_result (number r)
 
 abbrev pub avr_result : CAvr → CAvrFinished
-avr_result c =
-    cond (avr_in c).known
-    (record { refusal = refusal_out (avr.finished (avr_in c).seq).outcome; sync = (avr.finished (avr_in c).seq).sync })
-    (record { refusal = unknown; sync = (avr.finished (avr.begun DeviceModel.Mevo).seq).sync })
+avr_result c = known (avr_in c) (λ s. avr_finished (avr.finished s)) (no_avr_result unknown)

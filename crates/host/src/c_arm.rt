@@ -5,12 +5,12 @@ ghost use Rattle.arm.specs.Answers.{begun};
 ghost use Rattle.host.specs.Untimed.{arm_unknown, arm_new_for, arm_fed, arm_declined, arm_feed, arm_retries};
 
 use crate::UNKNOWN;
-use abi::action::{CAction, action_out};
-use abi_arm::{CArm, CArmStep, arm_in, arm_out};
-use abi_messages::{CEnvelope, envelope_in};
+use abi::action::CAction;
+use abi_arm::{CArm, CArmStep};
+use abi_messages::{CEnvelope, Envelope};
 use abi_values::{model_in, refusal_out};
-use arm::{ArmFed, ArmSequencer};
-use protocol::Action;
+use arm::ArmSequencer;
+use sequence::Answer;
 
 #[repr(C)]
 #[derive(Clone, Copy)]
@@ -27,27 +27,25 @@ pub struct CRetries {
     pub retries: u16,
 }
 
-fn fed_out(fed: ArmFed) -> CArmFed
-    ensures { result ≡ arm_fed fed }
-{
-    let outcome = fed.outcome;
-    let action = fed.action;
-    let seq = fed.seq;
-    CArmFed {
-        refusal: refusal_out(outcome),
-        action: action_out(action),
-        seq: arm_out(seq),
+impl From<Answer<ArmSequencer>> for CArmFed {
+    ghost from_gives = { λ fed r. r ≡ arm_fed fed };
+
+    fn from(fed: Answer<ArmSequencer>) -> CArmFed {
+        CArmFed {
+            refusal: refusal_out(fed.outcome),
+            action: fed.outcome.unwrap_or(None).into(),
+            seq: fed.seq.into(),
+        }
     }
 }
 
 fn declined(seq: CArm) -> CArmFed
     ensures { result ≡ arm_declined seq }
 {
-    let none = Action::none();
     CArmFed {
         refusal: UNKNOWN,
-        action: action_out(none),
-        seq: seq,
+        action: CAction::none(),
+        seq,
     }
 }
 
@@ -70,19 +68,17 @@ fn unknown() -> CArm
 pub extern "C" fn wigtalom_arm_new() -> CArmFed
     ensures { result ≡ arm_fed (begun DeviceModel.Mevo) }
 {
-    fed_out(ArmSequencer::new())
+    ArmSequencer::new().into()
 }
 
 #[unsafe(no_mangle)]
 pub extern "C" fn wigtalom_arm_new_for(model: u8) -> CArmFed
     ensures { result ≡ arm_new_for model }
 {
-    let m = model_in(model);
-    if m.known {
-        let known = m.value;
-        return fed_out(ArmSequencer::new_for(known));
+    match model_in(model) {
+        Ok(model) => ArmSequencer::new_for(model).into(),
+        Err(_) => declined(unknown()),
     }
-    declined(unknown())
 }
 
 #[unsafe(no_mangle)]
@@ -94,31 +90,25 @@ pub extern "C" fn wigtalom_arm_feed(
 ) -> CArmFed
     ensures { result ≡ arm_feed seq env text.now payload.now }
 {
-    let s = arm_in(seq);
-    let e = envelope_in(env);
-    if s.known & e.known {
-        let open = s.seq;
-        let src = e.src;
-        let message = e.message;
-        return fed_out(open.feed(src, env.type_id, message, text, payload));
-    }
-    declined(seq)
+    let (Ok(open), Ok(env)) = (ArmSequencer::try_from(seq), Envelope::try_from(env)) else {
+        return declined(seq);
+    };
+    open.feed(env.src, env.type_id, env.message, text, payload)
+        .into()
 }
 
 #[unsafe(no_mangle)]
 pub extern "C" fn wigtalom_arm_retries(seq: CArm) -> CRetries
     ensures { result ≡ arm_retries seq }
 {
-    let s = arm_in(seq);
-    if s.known {
-        let open = s.seq;
-        return CRetries {
+    match ArmSequencer::try_from(seq) {
+        Ok(open) => CRetries {
             refusal: 0,
             retries: open.retries(),
-        };
-    }
-    CRetries {
-        refusal: UNKNOWN,
-        retries: 0,
+        },
+        Err(_) => CRetries {
+            refusal: UNKNOWN,
+            retries: 0,
+        },
     }
 }

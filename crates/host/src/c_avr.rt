@@ -2,15 +2,16 @@
 ghost use Rattle.std.specs.Prelude.{◌≡◌};
 ghost use Rattle.device.specs.declared.model.DeviceModel.{DeviceModel};
 ghost use Rattle.avr.specs.Answers.{begun};
-ghost use Rattle.host.specs.Timed.{avr_unknown, avr_new_for, avr_fed, avr_declined, avr_feed, avr_check, avr_result};
+ghost use Rattle.host.specs.Timed.{avr_unknown, avr_new_for, avr_fed, avr_declined, avr_feed, avr_check, avr_sync, no_avr_result, avr_finished, avr_result};
 
 use crate::UNKNOWN;
-use abi::action::{CAction, action_out};
-use abi_avr::{CAvr, avr_in, avr_out};
-use abi_messages::{CEnvelope, envelope_in};
+use abi::action::CAction;
+use abi_avr::{CAvr, COptionStored};
+use abi_messages::{CEnvelope, Envelope};
 use abi_values::{model_in, refusal_out};
-use avr::{AvrFed, AvrSequencer, AvrSync};
-use protocol::Action;
+use avr::{AvrSequencer, AvrSync};
+use protocol::{AvrStatus, ConfigResp, DevInfoResp, Refusal};
+use sequence::Answer;
 
 #[repr(C)]
 #[derive(Clone, Copy)]
@@ -22,32 +23,81 @@ pub struct CAvrFed {
 
 #[repr(C)]
 #[derive(Clone, Copy)]
-pub struct CAvrFinished {
-    pub refusal: u8,
-    pub sync: AvrSync,
+pub struct CAvrSync {
+    pub status: AvrStatus,
+    pub dev_info: DevInfoResp,
+    pub config: ConfigResp,
+    pub factory_cal: COptionStored,
+    pub if_cal: COptionStored,
+    pub avr_config: COptionStored,
 }
 
-fn fed_out(fed: AvrFed) -> CAvrFed
-    ensures { result ≡ avr_fed fed }
-{
-    let outcome = fed.outcome;
-    let action = fed.action;
-    let seq = fed.seq;
-    CAvrFed {
-        refusal: refusal_out(outcome),
-        action: action_out(action),
-        seq: avr_out(seq),
+#[repr(C)]
+#[derive(Clone, Copy)]
+pub struct CAvrFinished {
+    pub refusal: u8,
+    pub sync: CAvrSync,
+}
+
+impl From<Answer<AvrSequencer>> for CAvrFed {
+    ghost from_gives = { λ fed r. r ≡ avr_fed fed };
+
+    fn from(fed: Answer<AvrSequencer>) -> CAvrFed {
+        CAvrFed {
+            refusal: refusal_out(fed.outcome),
+            action: fed.outcome.unwrap_or(None).into(),
+            seq: fed.seq.into(),
+        }
     }
 }
 
 fn declined(seq: CAvr) -> CAvrFed
     ensures { result ≡ avr_declined seq }
 {
-    let none = Action::none();
     CAvrFed {
         refusal: UNKNOWN,
-        action: action_out(none),
-        seq: seq,
+        action: CAction::none(),
+        seq,
+    }
+}
+
+impl From<AvrSync> for CAvrSync {
+    ghost from_gives = { λ sync r. r ≡ avr_sync sync };
+
+    fn from(sync: AvrSync) -> CAvrSync {
+        CAvrSync {
+            status: sync.status,
+            dev_info: sync.dev_info,
+            config: sync.config,
+            factory_cal: sync.factory_cal.map(|cal| cal.payload).into(),
+            if_cal: sync.if_cal.map(|cal| cal.payload).into(),
+            avr_config: sync.avr_config.map(|config| config.payload).into(),
+        }
+    }
+}
+
+// Beside a refusal stands what a new start-up has.
+fn no_result(refusal: u8) -> CAvrFinished
+    ensures { result ≡ no_avr_result refusal }
+{
+    let replies = AvrSequencer::new().seq.state.replies;
+    CAvrFinished {
+        refusal,
+        sync: AvrSync::from(replies).into(),
+    }
+}
+
+impl From<Result<AvrSync, Refusal>> for CAvrFinished {
+    ghost from_gives = { λ finished r. r ≡ avr_finished finished };
+
+    fn from(finished: Result<AvrSync, Refusal>) -> CAvrFinished {
+        match finished {
+            Ok(sync) => CAvrFinished {
+                refusal: 0,
+                sync: sync.into(),
+            },
+            Err(refusal) => no_result(refusal.number()),
+        }
     }
 }
 
@@ -55,29 +105,27 @@ fn declined(seq: CAvr) -> CAvrFed
 fn unknown() -> CAvr
     ensures { result ≡ avr_unknown }
 {
-    let started = AvrSequencer::new();
-    let mut c = avr_out(started.seq);
-    c.step = 255;
-    c
+    CAvr {
+        step: 255,
+        ..AvrSequencer::new().seq.into()
+    }
 }
 
 #[unsafe(no_mangle)]
 pub extern "C" fn wigtalom_avr_new() -> CAvrFed
     ensures { result ≡ avr_fed (begun DeviceModel.Mevo) }
 {
-    fed_out(AvrSequencer::new())
+    AvrSequencer::new().into()
 }
 
 #[unsafe(no_mangle)]
 pub extern "C" fn wigtalom_avr_new_for(model: u8) -> CAvrFed
     ensures { result ≡ avr_new_for model }
 {
-    let m = model_in(model);
-    if m.known {
-        let known = m.value;
-        return fed_out(AvrSequencer::new_for(known));
+    match model_in(model) {
+        Ok(model) => AvrSequencer::new_for(model).into(),
+        Err(_) => declined(unknown()),
     }
-    declined(unknown())
 }
 
 #[unsafe(no_mangle)]
@@ -91,28 +139,30 @@ pub extern "C" fn wigtalom_avr_feed(
 ) -> CAvrFed
     ensures { result ≡ avr_feed seq env text.now payload.now now wall }
 {
-    let s = avr_in(seq);
-    let e = envelope_in(env);
-    if s.known & e.known {
-        let open = s.seq;
-        let src = e.src;
-        let message = e.message;
-        let params = env.params;
-        return fed_out(open.feed(src, env.type_id, message, params, text, payload, now, wall));
-    }
-    declined(seq)
+    let (Ok(open), Ok(env)) = (AvrSequencer::try_from(seq), Envelope::try_from(env)) else {
+        return declined(seq);
+    };
+    open.feed(
+        env.src,
+        env.type_id,
+        env.message,
+        env.params,
+        text,
+        payload,
+        now,
+        wall,
+    )
+    .into()
 }
 
 #[unsafe(no_mangle)]
 pub extern "C" fn wigtalom_avr_check(seq: CAvr, now: u64) -> CAvrFed
     ensures { result ≡ avr_check seq now }
 {
-    let s = avr_in(seq);
-    if s.known {
-        let open = s.seq;
-        return fed_out(open.check_cal_timeout(now));
+    match AvrSequencer::try_from(seq) {
+        Ok(open) => open.check_cal_timeout(now).into(),
+        Err(_) => declined(seq),
     }
-    declined(seq)
 }
 
 // The result, once Done; beside a refusal an empty one.
@@ -120,23 +170,8 @@ pub extern "C" fn wigtalom_avr_check(seq: CAvr, now: u64) -> CAvrFed
 pub extern "C" fn wigtalom_avr_result(seq: CAvr) -> CAvrFinished
     ensures { result ≡ avr_result seq }
 {
-    let s = avr_in(seq);
-    if s.known {
-        let open = s.seq;
-        let finished = open.into_result();
-        let outcome = finished.outcome;
-        let sync = finished.sync;
-        return CAvrFinished {
-            refusal: refusal_out(outcome),
-            sync: sync,
-        };
-    }
-    let started = AvrSequencer::new();
-    let new = started.seq;
-    let none = new.into_result();
-    let sync = none.sync;
-    CAvrFinished {
-        refusal: UNKNOWN,
-        sync: sync,
+    match AvrSequencer::try_from(seq) {
+        Ok(open) => open.into_result().into(),
+        Err(_) => no_result(UNKNOWN),
     }
 }

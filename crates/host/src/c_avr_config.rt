@@ -5,13 +5,14 @@ ghost use Rattle.abi.specs.Settings.{settings_out};
 ghost use Rattle.host.specs.Untimed.{avr_config_fed, avr_config_declined, avr_config_new, avr_config_feed};
 
 use crate::UNKNOWN;
-use abi::action::{CAction, action_out};
-use abi::config::{CSettings, settings_in, settings_out};
-use abi_avr_config::{CAvrConfig, avr_config_in, avr_config_out};
-use abi_messages::{CEnvelope, envelope_in};
+use abi::action::CAction;
+use abi::config::CSettings;
+use abi_avr_config::CAvrConfig;
+use abi_messages::{CEnvelope, Envelope};
 use abi_values::refusal_out;
-use avr_config::{AvrConfigFed, AvrConfigSequencer};
-use protocol::{Action, RadarCal};
+use avr_config::AvrConfigSequencer;
+use protocol::{RadarCal, Refusal};
+use sequence::Answer;
 use settings::{AvrSettings, MAX_PARAMS, MevoSettings};
 
 #[repr(C)]
@@ -22,27 +23,25 @@ pub struct CAvrConfigFed {
     pub seq: CAvrConfig,
 }
 
-fn fed_out(fed: AvrConfigFed) -> CAvrConfigFed
-    ensures { result ≡ avr_config_fed fed }
-{
-    let outcome = fed.outcome;
-    let action = fed.action;
-    let seq = fed.seq;
-    CAvrConfigFed {
-        refusal: refusal_out(outcome),
-        action: action_out(action),
-        seq: avr_config_out(seq),
+impl From<Answer<AvrConfigSequencer>> for CAvrConfigFed {
+    ghost from_gives = { λ fed r. r ≡ avr_config_fed fed };
+
+    fn from(fed: Answer<AvrConfigSequencer>) -> CAvrConfigFed {
+        CAvrConfigFed {
+            refusal: refusal_out(fed.outcome),
+            action: fed.outcome.unwrap_or(None).into(),
+            seq: fed.seq.into(),
+        }
     }
 }
 
 fn declined(seq: CAvrConfig) -> CAvrConfigFed
     ensures { result ≡ avr_config_declined seq }
 {
-    let none = Action::none();
     CAvrConfigFed {
         refusal: UNKNOWN,
-        action: action_out(none),
-        seq: seq,
+        action: CAction::none(),
+        seq,
     }
 }
 
@@ -50,7 +49,7 @@ fn declined(seq: CAvrConfig) -> CAvrConfigFed
 pub extern "C" fn wigtalom_mode_only(mode: u8) -> CSettings
     ensures { result ≡ settings_out (mode_only mode) }
 {
-    settings_out(AvrSettings::mode_only(mode))
+    AvrSettings::mode_only(mode).into()
 }
 
 #[unsafe(no_mangle)]
@@ -64,7 +63,7 @@ pub extern "C" fn wigtalom_mevo_settings(
     ensures { result ≡ settings_out (from_mevo (record { mode = mode; ball_type = ball_type; track_fraction = track_fraction; tee_height_m = tee_height_m; radar_cal = radar_cal })) }
 {
     let settings = MevoSettings::new(mode, ball_type, track_fraction, tee_height_m, radar_cal);
-    settings_out(AvrSettings::from(settings))
+    AvrSettings::from(settings).into()
 }
 
 // A count above 32 is told before a format that there is not.
@@ -72,14 +71,14 @@ pub extern "C" fn wigtalom_mevo_settings(
 pub extern "C" fn wigtalom_avr_config_new(settings: CSettings) -> CAvrConfigFed
     ensures { result ≡ avr_config_new settings }
 {
-    let s = settings_in(settings);
-    if s.known | (MAX_PARAMS < settings.len) {
-        let set = s.value;
-        return fed_out(AvrConfigSequencer::new(set));
+    let none = AvrConfigSequencer::new(AvrSettings::mode_only(0)).seq;
+    if MAX_PARAMS < settings.len {
+        return Answer::refused(Refusal::TooManyParams, none).into();
     }
-    let none = AvrConfigSequencer::new(AvrSettings::mode_only(0));
-    let seq = none.seq;
-    declined(avr_config_out(seq))
+    match AvrSettings::try_from(settings) {
+        Ok(settings) => AvrConfigSequencer::new(settings).into(),
+        Err(_) => declined(none.into()),
+    }
 }
 
 #[unsafe(no_mangle)]
@@ -91,13 +90,9 @@ pub extern "C" fn wigtalom_avr_config_feed(
 ) -> CAvrConfigFed
     ensures { result ≡ avr_config_feed seq env text.now payload.now }
 {
-    let s = avr_config_in(seq);
-    let e = envelope_in(env);
-    if s.known & e.known {
-        let open = s.seq;
-        let src = e.src;
-        let message = e.message;
-        return fed_out(open.feed(src, env.type_id, message, text, payload));
-    }
-    declined(seq)
+    let (Ok(open), Ok(env)) = (AvrConfigSequencer::try_from(seq), Envelope::try_from(env)) else {
+        return declined(seq);
+    };
+    open.feed(env.src, env.type_id, env.message, text, payload)
+        .into()
 }

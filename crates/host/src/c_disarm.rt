@@ -4,12 +4,12 @@ ghost use Rattle.disarm.specs.Answers.{begun};
 ghost use Rattle.host.specs.Untimed.{disarm_fed, disarm_declined, disarm_feed};
 
 use crate::UNKNOWN;
-use abi::action::{CAction, action_out};
-use abi_disarm::{CDisarm, disarm_in, disarm_out};
-use abi_messages::{CEnvelope, envelope_in};
+use abi::action::CAction;
+use abi_disarm::CDisarm;
+use abi_messages::{CEnvelope, Envelope};
 use abi_values::refusal_out;
-use disarm::{DisarmFed, DisarmSequencer};
-use protocol::Action;
+use disarm::DisarmSequencer;
+use sequence::Answer;
 
 #[repr(C)]
 #[derive(Clone, Copy)]
@@ -19,27 +19,25 @@ pub struct CDisarmFed {
     pub seq: CDisarm,
 }
 
-fn fed_out(fed: DisarmFed) -> CDisarmFed
-    ensures { result ≡ disarm_fed fed }
-{
-    let outcome = fed.outcome;
-    let action = fed.action;
-    let seq = fed.seq;
-    CDisarmFed {
-        refusal: refusal_out(outcome),
-        action: action_out(action),
-        seq: disarm_out(seq),
+impl From<Answer<DisarmSequencer>> for CDisarmFed {
+    ghost from_gives = { λ fed r. r ≡ disarm_fed fed };
+
+    fn from(fed: Answer<DisarmSequencer>) -> CDisarmFed {
+        CDisarmFed {
+            refusal: refusal_out(fed.outcome),
+            action: fed.outcome.unwrap_or(None).into(),
+            seq: fed.seq.into(),
+        }
     }
 }
 
 fn declined(seq: CDisarm) -> CDisarmFed
     ensures { result ≡ disarm_declined seq }
 {
-    let none = Action::none();
     CDisarmFed {
         refusal: UNKNOWN,
-        action: action_out(none),
-        seq: seq,
+        action: CAction::none(),
+        seq,
     }
 }
 
@@ -47,7 +45,7 @@ fn declined(seq: CDisarm) -> CDisarmFed
 pub extern "C" fn wigtalom_disarm_new() -> CDisarmFed
     ensures { result ≡ disarm_fed begun }
 {
-    fed_out(DisarmSequencer::new())
+    DisarmSequencer::new().into()
 }
 
 #[unsafe(no_mangle)]
@@ -59,13 +57,9 @@ pub extern "C" fn wigtalom_disarm_feed(
 ) -> CDisarmFed
     ensures { result ≡ disarm_feed seq env text.now payload.now }
 {
-    let s = disarm_in(seq);
-    let e = envelope_in(env);
-    if s.known & e.known {
-        let open = s.seq;
-        let src = e.src;
-        let message = e.message;
-        return fed_out(open.feed(src, env.type_id, message, text, payload));
-    }
-    declined(seq)
+    let (Ok(open), Ok(env)) = (DisarmSequencer::try_from(seq), Envelope::try_from(env)) else {
+        return declined(seq);
+    };
+    open.feed(env.src, env.type_id, env.message, text, payload)
+        .into()
 }

@@ -1,16 +1,16 @@
 // The DSP start-up.
 ghost use Rattle.std.specs.Prelude.{◌≡◌};
 ghost use Rattle.dsp.specs.Answers.{begun};
-ghost use Rattle.host.specs.Timed.{dsp_fed, dsp_declined, dsp_feed, dsp_check, dsp_sync, dsp_result, dsp_take};
+ghost use Rattle.host.specs.Timed.{dsp_fed, dsp_declined, dsp_feed, dsp_check, dsp_sync, no_dsp_result, dsp_finished, dsp_result, dsp_take};
 
 use crate::UNKNOWN;
-use abi::action::{CAction, action_out};
-use abi_dsp::{CDsp, COptionNack, dsp_in, dsp_out, nack_out};
-use abi_messages::{CDspStatus, CEnvelope, dsp_status_out, envelope_in};
+use abi::action::CAction;
+use abi_dsp::{CDsp, COptionDspQueryResp, COptionNack};
+use abi_messages::{CDspStatus, CEnvelope, Envelope};
 use abi_values::{model_out, refusal_out};
-use dsp::{DspFed, DspSequencer, DspSync};
-use dsp_table::OptionDspQueryResp;
-use protocol::{Action, ConfigResp, DevInfoResp, OptionNack, ProdInfoResp, Stored};
+use dsp::{DspSequencer, DspSync};
+use protocol::{ConfigResp, DevInfoResp, ProdInfoResp, Refusal, Stored};
+use sequence::Answer;
 
 #[repr(C)]
 #[derive(Clone, Copy)]
@@ -25,7 +25,7 @@ pub struct CDspFed {
 pub struct CDspSync {
     pub status: CDspStatus,
     pub status_payload: Stored,
-    pub hw_info: OptionDspQueryResp,
+    pub hw_info: COptionDspQueryResp,
     pub dev_info: DevInfoResp,
     pub prod_info: [ProdInfoResp; 3],
     pub config: ConfigResp,
@@ -48,49 +48,68 @@ pub struct CDspTaken {
     pub seq: CDsp,
 }
 
-fn sync_out(sync: DspSync) -> CDspSync
-    ensures { result ≡ dsp_sync sync }
-{
-    let model = sync.model;
-    let status = sync.status;
-    let prod_info = sync.prod_info;
-    let status_payload = sync.status_payload;
-    let hw_info = sync.hw_info;
-    let dev_info = sync.dev_info;
-    let config = sync.config;
-    CDspSync {
-        status: dsp_status_out(status),
-        status_payload: status_payload,
-        hw_info: hw_info,
-        dev_info: dev_info,
-        prod_info: prod_info,
-        config: config,
-        model: model_out(model),
-        power_mode_unanswered: sync.power_mode_unanswered,
-    }
-}
+impl From<Answer<DspSequencer>> for CDspFed {
+    ghost from_gives = { λ fed r. r ≡ dsp_fed fed };
 
-fn fed_out(fed: DspFed) -> CDspFed
-    ensures { result ≡ dsp_fed fed }
-{
-    let outcome = fed.outcome;
-    let action = fed.action;
-    let seq = fed.seq;
-    CDspFed {
-        refusal: refusal_out(outcome),
-        action: action_out(action),
-        seq: dsp_out(seq),
+    fn from(fed: Answer<DspSequencer>) -> CDspFed {
+        CDspFed {
+            refusal: refusal_out(fed.outcome),
+            action: fed.outcome.unwrap_or(None).into(),
+            seq: fed.seq.into(),
+        }
     }
 }
 
 fn declined(seq: CDsp) -> CDspFed
     ensures { result ≡ dsp_declined seq }
 {
-    let none = Action::none();
     CDspFed {
         refusal: UNKNOWN,
-        action: action_out(none),
-        seq: seq,
+        action: CAction::none(),
+        seq,
+    }
+}
+
+impl From<DspSync> for CDspSync {
+    ghost from_gives = { λ sync r. r ≡ dsp_sync sync };
+
+    fn from(sync: DspSync) -> CDspSync {
+        let prod_info = sync.prod_info;
+        CDspSync {
+            status: sync.status.into(),
+            status_payload: sync.status_payload,
+            hw_info: sync.hw_info.into(),
+            dev_info: sync.dev_info,
+            prod_info,
+            config: sync.config,
+            model: model_out(sync.model),
+            power_mode_unanswered: sync.power_mode_unanswered,
+        }
+    }
+}
+
+// Beside a refusal stands what a new start-up has.
+fn no_result(refusal: u8) -> CDspFinished
+    ensures { result ≡ no_dsp_result refusal }
+{
+    let replies = DspSequencer::new().seq.state.replies;
+    CDspFinished {
+        refusal,
+        sync: DspSync::from(replies).into(),
+    }
+}
+
+impl From<Result<DspSync, Refusal>> for CDspFinished {
+    ghost from_gives = { λ finished r. r ≡ dsp_finished finished };
+
+    fn from(finished: Result<DspSync, Refusal>) -> CDspFinished {
+        match finished {
+            Ok(sync) => CDspFinished {
+                refusal: 0,
+                sync: sync.into(),
+            },
+            Err(refusal) => no_result(refusal.number()),
+        }
     }
 }
 
@@ -98,7 +117,7 @@ fn declined(seq: CDsp) -> CDspFed
 pub extern "C" fn wigtalom_dsp_new() -> CDspFed
     ensures { result ≡ dsp_fed begun }
 {
-    fed_out(DspSequencer::new())
+    DspSequencer::new().into()
 }
 
 #[unsafe(no_mangle)]
@@ -111,28 +130,29 @@ pub extern "C" fn wigtalom_dsp_feed(
 ) -> CDspFed
     ensures { result ≡ dsp_feed seq env text.now payload.now now }
 {
-    let s = dsp_in(seq);
-    let e = envelope_in(env);
-    if s.known & e.known {
-        let open = s.seq;
-        let src = e.src;
-        let message = e.message;
-        let params = env.params;
-        return fed_out(open.feed(src, env.type_id, message, params, text, payload, now));
-    }
-    declined(seq)
+    let (Ok(open), Ok(env)) = (DspSequencer::try_from(seq), Envelope::try_from(env)) else {
+        return declined(seq);
+    };
+    open.feed(
+        env.src,
+        env.type_id,
+        env.message,
+        env.params,
+        text,
+        payload,
+        now,
+    )
+    .into()
 }
 
 #[unsafe(no_mangle)]
 pub extern "C" fn wigtalom_dsp_check(seq: CDsp, now: u64) -> CDspFed
     ensures { result ≡ dsp_check seq now }
 {
-    let s = dsp_in(seq);
-    if s.known {
-        let open = s.seq;
-        return fed_out(open.check_timeout(now));
+    match DspSequencer::try_from(seq) {
+        Ok(open) => open.check_timeout(now).into(),
+        Err(_) => declined(seq),
     }
-    declined(seq)
 }
 
 // The result, once Done; beside a refusal an empty one.
@@ -140,22 +160,9 @@ pub extern "C" fn wigtalom_dsp_check(seq: CDsp, now: u64) -> CDspFed
 pub extern "C" fn wigtalom_dsp_result(seq: CDsp) -> CDspFinished
     ensures { result ≡ dsp_result seq }
 {
-    let s = dsp_in(seq);
-    if s.known {
-        let open = s.seq;
-        let finished = open.into_result();
-        let outcome = finished.outcome;
-        return CDspFinished {
-            refusal: refusal_out(outcome),
-            sync: sync_out(finished.sync),
-        };
-    }
-    let started = DspSequencer::new();
-    let new = started.seq;
-    let none = new.into_result();
-    CDspFinished {
-        refusal: UNKNOWN,
-        sync: sync_out(none.sync),
+    match DspSequencer::try_from(seq) {
+        Ok(open) => open.into_result().into(),
+        Err(_) => no_result(UNKNOWN),
     }
 }
 
@@ -163,20 +170,17 @@ pub extern "C" fn wigtalom_dsp_result(seq: CDsp) -> CDspFinished
 pub extern "C" fn wigtalom_dsp_take_refused(seq: CDsp) -> CDspTaken
     ensures { result ≡ dsp_take seq }
 {
-    let s = dsp_in(seq);
-    if s.known {
-        let open = s.seq;
-        let taken = open.take_refused();
+    let Ok(open) = DspSequencer::try_from(seq) else {
         return CDspTaken {
-            refusal: 0,
-            refused: nack_out(taken.refused),
-            seq: dsp_out(taken.seq),
+            refusal: UNKNOWN,
+            refused: COptionNack::from(None),
+            seq,
         };
-    }
-    let none = OptionNack::none();
+    };
+    let taken = open.take_refused();
     CDspTaken {
-        refusal: UNKNOWN,
-        refused: nack_out(none),
-        seq: seq,
+        refusal: 0,
+        refused: taken.refused.into(),
+        seq: taken.seq.into(),
     }
 }

@@ -1,15 +1,16 @@
 // The Pi start-up.
 ghost use Rattle.std.specs.Prelude.{◌≡◌};
 ghost use Rattle.pi.specs.Answers.{begun};
-ghost use Rattle.host.specs.Untimed.{pi_fed, pi_declined, pi_feed, pi_result};
+ghost use Rattle.host.specs.Untimed.{pi_fed, pi_declined, pi_feed, no_pi_result, pi_finished, pi_result};
 
 use crate::UNKNOWN;
-use abi::action::{CAction, action_out};
-use abi_messages::{CEnvelope, envelope_in};
-use abi_pi::{CPi, pi_in, pi_out};
+use abi::action::CAction;
+use abi_messages::{CEnvelope, Envelope};
+use abi_pi::CPi;
 use abi_values::refusal_out;
-use pi::{PiFed, PiSequencer, PiSync};
-use protocol::Action;
+use pi::{PiSequencer, PiSync};
+use protocol::Refusal;
+use sequence::Answer;
 
 #[repr(C)]
 #[derive(Clone, Copy)]
@@ -26,27 +27,47 @@ pub struct CPiFinished {
     pub sync: PiSync,
 }
 
-fn fed_out(fed: PiFed) -> CPiFed
-    ensures { result ≡ pi_fed fed }
-{
-    let outcome = fed.outcome;
-    let action = fed.action;
-    let seq = fed.seq;
-    CPiFed {
-        refusal: refusal_out(outcome),
-        action: action_out(action),
-        seq: pi_out(seq),
+impl From<Answer<PiSequencer>> for CPiFed {
+    ghost from_gives = { λ fed r. r ≡ pi_fed fed };
+
+    fn from(fed: Answer<PiSequencer>) -> CPiFed {
+        CPiFed {
+            refusal: refusal_out(fed.outcome),
+            action: fed.outcome.unwrap_or(None).into(),
+            seq: fed.seq.into(),
+        }
     }
 }
 
 fn declined(seq: CPi) -> CPiFed
     ensures { result ≡ pi_declined seq }
 {
-    let none = Action::none();
     CPiFed {
         refusal: UNKNOWN,
-        action: action_out(none),
-        seq: seq,
+        action: CAction::none(),
+        seq,
+    }
+}
+
+// Beside a refusal stands what a new start-up has.
+fn no_result(refusal: u8) -> CPiFinished
+    ensures { result ≡ no_pi_result refusal }
+{
+    let replies = PiSequencer::new().seq.replies;
+    CPiFinished {
+        refusal,
+        sync: replies.into(),
+    }
+}
+
+impl From<Result<PiSync, Refusal>> for CPiFinished {
+    ghost from_gives = { λ finished r. r ≡ pi_finished finished };
+
+    fn from(finished: Result<PiSync, Refusal>) -> CPiFinished {
+        match finished {
+            Ok(sync) => CPiFinished { refusal: 0, sync },
+            Err(refusal) => no_result(refusal.number()),
+        }
     }
 }
 
@@ -54,22 +75,18 @@ fn declined(seq: CPi) -> CPiFed
 pub extern "C" fn wigtalom_pi_new() -> CPiFed
     ensures { result ≡ pi_fed begun }
 {
-    fed_out(PiSequencer::new())
+    PiSequencer::new().into()
 }
 
 #[unsafe(no_mangle)]
 pub extern "C" fn wigtalom_pi_feed(seq: CPi, env: CEnvelope, text: &[u8], payload: &[u8]) -> CPiFed
     ensures { result ≡ pi_feed seq env text.now payload.now }
 {
-    let s = pi_in(seq);
-    let e = envelope_in(env);
-    if s.known & e.known {
-        let open = s.seq;
-        let src = e.src;
-        let message = e.message;
-        return fed_out(open.feed(src, env.type_id, message, text, payload));
-    }
-    declined(seq)
+    let (Ok(open), Ok(env)) = (PiSequencer::try_from(seq), Envelope::try_from(env)) else {
+        return declined(seq);
+    };
+    open.feed(env.src, env.type_id, env.message, text, payload)
+        .into()
 }
 
 // The result, once Done; beside a refusal an empty one.
@@ -77,23 +94,8 @@ pub extern "C" fn wigtalom_pi_feed(seq: CPi, env: CEnvelope, text: &[u8], payloa
 pub extern "C" fn wigtalom_pi_result(seq: CPi) -> CPiFinished
     ensures { result ≡ pi_result seq }
 {
-    let s = pi_in(seq);
-    if s.known {
-        let open = s.seq;
-        let finished = open.into_result();
-        let outcome = finished.outcome;
-        let sync = finished.sync;
-        return CPiFinished {
-            refusal: refusal_out(outcome),
-            sync: sync,
-        };
-    }
-    let started = PiSequencer::new();
-    let new = started.seq;
-    let none = new.into_result();
-    let sync = none.sync;
-    CPiFinished {
-        refusal: UNKNOWN,
-        sync: sync,
+    match PiSequencer::try_from(seq) {
+        Ok(open) => open.into_result().into(),
+        Err(_) => no_result(UNKNOWN),
     }
 }

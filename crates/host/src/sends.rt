@@ -2,14 +2,13 @@
 ghost use Rattle.std.specs.Prelude.{◌≡◌};
 ghost use Rattle.device.specs.Model.{model_of};
 ghost use Rattle.abi_values.specs.Numbers.{model_out};
-ghost use Rattle.host.specs.Sends.{result_ack, keepalive_out, keepalive};
+ghost use Rattle.host.specs.Sends.{result_ack, keepalive};
 
 use crate::UNKNOWN;
-use abi::action::{CAction, action_out};
+use abi::action::CAction;
 use abi_values::{addr_in, model_in, model_out};
 use device::model::DeviceModel;
 use device::sends;
-use protocol::Action;
 
 #[repr(C)]
 #[derive(Clone, Copy)]
@@ -37,49 +36,31 @@ pub extern "C" fn wigtalom_model(payload: &[u8]) -> u8
 pub extern "C" fn wigtalom_result_ack(model: u8, src: u8, type_id: u8) -> CSent
     ensures { result ≡ result_ack model src type_id }
 {
-    let m = model_in(model);
-    let s = addr_in(src);
-    if m.known & s.known {
-        let known = m.value;
-        let from = s.value;
-        let ack = sends::result_ack(known, from, type_id);
+    let (Ok(model), Ok(src)) = (model_in(model), addr_in(src)) else {
         return CSent {
-            refusal: 0,
-            action: action_out(ack),
+            refusal: UNKNOWN,
+            action: CAction::none(),
         };
-    }
-    let none = Action::none();
+    };
     CSent {
-        refusal: UNKNOWN,
-        action: action_out(none),
+        refusal: 0,
+        action: sends::result_ack(model, src, type_id).into(),
     }
-}
-
-fn three(actions: [Action; 3]) -> [CAction; 3]
-    ensures { result ≡ keepalive_out actions }
-{
-    let first = action_out(actions[0]);
-    let second = action_out(actions[1]);
-    let third = action_out(actions[2]);
-    [first, second, third]
 }
 
 #[unsafe(no_mangle)]
 pub extern "C" fn wigtalom_keepalive(model: u8) -> CKeepalive
     ensures { result ≡ keepalive model }
 {
-    let m = model_in(model);
-    if m.known {
-        let known = m.value;
-        let polls = sends::keepalive_actions_for(known);
+    let Ok(model) = model_in(model) else {
         return CKeepalive {
-            refusal: 0,
-            actions: three(polls),
+            refusal: UNKNOWN,
+            actions: [CAction::none(); 3],
         };
-    }
-    let none = action_out(Action::none());
+    };
+    let polls = sends::keepalive_actions_for(model);
     CKeepalive {
-        refusal: UNKNOWN,
-        actions: [none, none, none],
+        refusal: 0,
+        actions: [polls[0].into(), polls[1].into(), polls[2].into()],
     }
 }

@@ -2,89 +2,68 @@
 // lines over it.
 #![tactic(auto)]
 
-use reading::call::{Call, NO_CALLS, Sequence};
-use scanning::bytes::BYTES;
-use std::io::Stdout;
-use streams::next::{Turn, next};
-use streams::{Ended, INPUT, LONGER, Source, Stream};
-use words::kinds::{KINDS, Kinds, VALUES};
-use writing::write::OUT;
+use arm_calls::ArmCalls;
+use avr_calls::AvrCalls;
+use avr_config_calls::AvrConfigCalls;
+use disarm_calls::DisarmCalls;
+use dsp_calls::DspCalls;
+use pi_calls::PiCalls;
+use reading::Sequence;
+use std::alloc::Global;
+use std::io::{Read, Write};
+use streams::answers::Form;
+use streams::running::{NotBegun, begin, run};
+use streams::{Failure, List};
 
-// Answers the calls of a sequence, up to the next that begins or the end of the list.
-fn run<'a>(
+// Answers the call that begins a sequence, and the calls of the sequence, up to that which begins the next one, or the end of the list.
+fn answer<R: Read + Drop, W: Write + Drop>(
     sequence: Sequence,
-    stream: Stream<'a>,
-    kinds: &Kinds,
-    input: &mut [u8; INPUT],
-    line: &mut [u8; LONGER],
-    values: &mut [u64; VALUES],
-    bytes: &mut [u8; BYTES],
-    out: &mut [u8; OUT],
-) -> Turn<'a> {
+    list: &mut List<R, W>,
+) -> Result<Option<Sequence>, Failure> {
+    let out = &mut list.answers.answer;
     match sequence {
-        Sequence::Dsp => dsp_calls::run(stream, kinds, input, line, values, bytes, out),
+        Sequence::Dsp => {
+            let dsp = DspCalls::begin(out)?;
+            begin(dsp, list)
+        }
         Sequence::Avr(model) => {
-            avr_calls::run(model, stream, kinds, input, line, values, bytes, out)
+            let avr = AvrCalls::begin(model, out)?;
+            begin(avr, list)
         }
-        Sequence::Pi => pi_calls::run(stream, kinds, input, line, values, bytes, out),
+        Sequence::Pi => {
+            let pi = PiCalls::begin(out)?;
+            begin(pi, list)
+        }
         Sequence::AvrConfig(settings) => {
-            avr_config_calls::run(settings, stream, kinds, input, line, values, bytes, out)
+            let run = AvrConfigCalls::begin(&settings, out)?;
+            begin(run, list)
         }
-        Sequence::Disarm => disarm_calls::run(stream, kinds, input, line, values, bytes, out),
+        Sequence::Disarm => {
+            let disarm = DisarmCalls::begin(out)?;
+            begin(disarm, list)
+        }
         Sequence::Arm(model) => {
-            arm_calls::run(model, stream, kinds, input, line, values, bytes, out)
+            let arm = ArmCalls::begin(model, out)?;
+            begin(arm, list)
         }
     }
 }
 
-// Answers a list.
-fn answer<'a>(
-    stream: Stream<'a>,
-    kinds: &Kinds,
-    input: &mut [u8; INPUT],
-    line: &mut [u8; LONGER],
-    values: &mut [u64; VALUES],
-    bytes: &mut [u8; BYTES],
-    out: &mut [u8; OUT],
-) -> Stream<'a> {
-    let mut turn = next(stream, NO_CALLS, kinds, input, line, values, bytes, out);
-    let mut turns = u64::MAX;
-    while 0 < turns {
-        let call = turn.call;
-        let Call::Begin(sequence) = call else {
-            return turn.stream;
+// Answers a whole list, and how many of its lines could not be read.
+pub fn replay<R: Read + Drop, W: Write + Drop>(
+    alloc: Global,
+    input: R,
+    output: W,
+    form: Form,
+) -> Result<u64, Failure> {
+    let mut list = List::new(alloc, input, output, form)?;
+    let mut next = run(NotBegun, &mut list)?;
+    // The sequences are counted down, as reads are.
+    for _ in 0..u64::MAX {
+        let Some(sequence) = next else {
+            break;
         };
-        turn = run(
-            sequence,
-            turn.stream,
-            kinds,
-            input,
-            line,
-            values,
-            bytes,
-            out,
-        );
-        turns -= 1;
+        next = answer(sequence, &mut list)?;
     }
-    turn.stream
-}
-
-// Answers a whole list, with the stored states if they are asked for, and for people if it is to be shown to them; and how it ended.
-pub fn replay(source: Source<'_>, stdout: Stdout, with_state: bool, shown: bool) -> Ended {
-    let kinds = KINDS;
-    let mut input = [0u8; INPUT];
-    let mut line = [0u8; LONGER];
-    let mut values = [0u64; VALUES];
-    let mut bytes = [0u8; BYTES];
-    let mut out = [0u8; OUT];
-    let stream = answer(
-        Stream::new(source, stdout, with_state, shown),
-        &kinds,
-        &mut input,
-        &mut line,
-        &mut values,
-        &mut bytes,
-        &mut out,
-    );
-    stream.finish(&mut out)
+    list.finish()
 }

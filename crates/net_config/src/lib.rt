@@ -11,12 +11,10 @@ use protocol::Stored;
 fn first_zero(text: &[u8]) -> usize
     ensures { result ≡ first_zero text.now }
 {
-    let mut i = 0;
-    while i < text.len() {
+    for i in 0..text.len() {
         if text[i] == 0 {
             return i;
         }
-        i += 1;
     }
     text.len()
 }

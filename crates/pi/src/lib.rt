@@ -2,20 +2,18 @@
 // with at most one command to send. It has no clock.
 #![tactic(auto)]
 
-ghost use Rattle.std.specs.Prelude.{◌≡◌, []};
+ghost use Rattle.std.specs.Prelude.{◌≡◌, [], Ok};
 ghost use Rattle.protocol.specs.declared.BusAddr.{BusAddr};
-ghost use Rattle.protocol.specs.declared.Outcome.{Outcome};
-ghost use Rattle.sequence.specs.Rows.{idle, past};
+ghost use Rattle.sequence.specs.Rows.{past};
 ghost use Rattle.pi_table.specs.declared.PiStep.{PiStep};
 ghost use Rattle.pi_table.specs.Stores.{no_replies};
 ghost use Rattle.pi_table.specs.Table.{entry2, entry5, entry7, param_row, next, request};
-ghost use Rattle.pi.specs.Answers.{begun, view, made, refused, advance, arm_at, sent, fed_to, sync_of, finished};
+ghost use Rattle.pi.specs.Answers.{begun, advance, arm_at, sent, fed_to, sync_of, finished};
 
 use net_config::{after_zero, before_zero};
-use pi_table::{OptionCamConfig, PiReplies, PiStep, request};
-use protocol::{
-    Action, BusAddr, CamConfig, DevInfoResp, Message, OptionDevInfoResp, Outcome, Refusal, Stored,
-};
+use pi_table::{PiReplies, PiStep, request};
+use protocol::{BusAddr, CamConfig, DevInfoResp, Message, Refusal, Stored};
+use sequence::Answer;
 
 #[derive(Clone, Copy)]
 pub struct PiSequencer {
@@ -32,163 +30,113 @@ pub struct PiSync {
     pub password: Stored,
 }
 
-#[derive(Clone, Copy)]
-pub struct PiFed {
-    pub outcome: Outcome,
-    pub action: Action,
-    pub seq: PiSequencer,
-}
-
-#[derive(Clone, Copy)]
-pub struct PiFinished {
-    pub outcome: Outcome,
-    pub sync: PiSync,
-}
-
 fn no_replies() -> PiReplies
     ensures { result ≡ no_replies }
 {
-    let bytes = Stored::empty();
-    let cam_config = CamConfig::none();
     PiReplies {
-        dev_info: OptionDevInfoResp {
-            some: false,
-            value: DevInfoResp {
-                text: bytes,
-                payload: bytes,
-            },
-        },
-        cam_config: OptionCamConfig {
-            some: false,
-            value: cam_config,
-        },
-        ssid: bytes,
-        password: bytes,
+        dev_info: None,
+        cam_config: None,
+        ssid: Stored::empty(),
+        password: Stored::empty(),
     }
 }
 
-// The result that these replies make.
-fn sync(replies: PiReplies) -> PiSync
-    ensures { result ≡ sync_of replies }
-{
-    let dev_info = replies.dev_info;
-    let info = dev_info.value;
-    let cam_config = replies.cam_config;
-    let camera = cam_config.value;
-    let ssid = replies.ssid;
-    let password = replies.password;
-    PiSync {
-        dev_info: info,
-        cam_config: camera,
-        ssid: ssid,
-        password: password,
+// The result that these replies make; where one hasn't come its fields are 0.
+impl From<PiReplies> for PiSync {
+    ghost from_gives = { λ replies r. r ≡ sync_of replies };
+
+    fn from(replies: PiReplies) -> PiSync {
+        PiSync {
+            dev_info: replies.dev_info.unwrap_or(DevInfoResp::none()),
+            cam_config: replies.cam_config.unwrap_or(CamConfig::none()),
+            ssid: replies.ssid,
+            password: replies.password,
+        }
     }
 }
 
 // ---- an envelope from the Pi, by step
 
 // A step begins.
-fn moved(step: PiStep, replies: PiReplies) -> PiFed
-    ensures { result ≡ record { outcome = Outcome.Accepted; action = request step; seq = record { step = step; replies = replies } } }
+fn moved(step: PiStep, replies: PiReplies) -> Answer<PiSequencer>
+    ensures { result ≡ record { outcome = Ok (request step); seq = record { step = step; replies = replies } } }
 {
-    PiFed {
-        outcome: Outcome::Accepted,
-        action: request(step),
-        seq: PiSequencer {
-            step: step,
-            replies: replies,
-        },
-    }
+    Answer::accepted(request(step), PiSequencer { step, replies })
 }
 
 impl PiSequencer {
-    // Nothing is sent, and nothing changes.
-    fn idle(self) -> PiFed
-        ensures { result ≡ made (idle (view self)) }
-    {
-        let action = Action::none();
-        PiFed {
-            outcome: Outcome::Accepted,
-            action: action,
-            seq: self,
-        }
-    }
-
-    fn refuse(self, refusal: Refusal) -> PiFed
-        ensures { result ≡ refused self (Outcome.Refused refusal) }
-    {
-        let action = Action::none();
-        PiFed {
-            outcome: Outcome::Refused(refusal),
-            action: action,
-            seq: self,
-        }
-    }
-
-    fn wait_dev_info(self, message: Message, text: &[u8], payload: &[u8]) -> PiFed
+    fn wait_dev_info(self, message: Message, text: &[u8], payload: &[u8]) -> Answer<PiSequencer>
         ensures { result ≡ arm_at entry2 PiStep.WaitParam0A past self (sent 0 message text.now payload.now) }
     {
-        if let Message::DevInfoResp = message {
-            let mut replies = self.replies;
-            let dev_info = OptionDevInfoResp {
-                some: true,
-                value: DevInfoResp {
-                    text: Stored::from_slice(text),
-                    payload: Stored::from_slice(payload),
-                },
-            };
-            replies.dev_info = dev_info;
-            return moved(PiStep::WaitParam0A, replies);
-        }
-        self.idle()
+        let Message::DevInfoResp = message else {
+            return Answer::accepted(None, self);
+        };
+        let dev_info = DevInfoResp {
+            text: Stored::from_slice(text),
+            payload: Stored::from_slice(payload),
+        };
+        moved(
+            PiStep::WaitParam0A,
+            PiReplies {
+                dev_info: Some(dev_info),
+                ..self.replies
+            },
+        )
     }
 
-    fn wait_cam_config2(self, message: Message) -> PiFed
+    fn wait_cam_config2(self, message: Message) -> Answer<PiSequencer>
         ensures { result ≡ arm_at entry5 PiStep.WaitNetConfig past self (sent 0 message [] []) }
     {
-        if let Message::CamConfig(c) = message {
-            let mut replies = self.replies;
-            let cam_config = OptionCamConfig {
-                some: true,
-                value: c,
-            };
-            replies.cam_config = cam_config;
-            return moved(PiStep::WaitNetConfig, replies);
-        }
-        self.idle()
+        let Message::CamConfig(cam_config) = message else {
+            return Answer::accepted(None, self);
+        };
+        moved(
+            PiStep::WaitNetConfig,
+            PiReplies {
+                cam_config: Some(cam_config),
+                ..self.replies
+            },
+        )
     }
 
-    fn wait_net_config_pw(self, message: Message, text: &[u8]) -> PiFed
+    fn wait_net_config_pw(self, message: Message, text: &[u8]) -> Answer<PiSequencer>
         ensures { result ≡ arm_at entry7 (PiStep.WaitParams 0) past self (sent 0 message text.now []) }
     {
-        if let Message::NetConfigResp = message {
-            let mut replies = self.replies;
-            let ssid = before_zero(text);
-            let password = after_zero(text);
-            replies.ssid = ssid;
-            replies.password = password;
-            return moved(PiStep::WaitParams { idx: 0 }, replies);
-        }
-        self.idle()
+        let Message::NetConfigResp = message else {
+            return Answer::accepted(None, self);
+        };
+        moved(
+            PiStep::WaitParams { idx: 0 },
+            PiReplies {
+                ssid: before_zero(text),
+                password: after_zero(text),
+                ..self.replies
+            },
+        )
     }
 
-    fn wait_params(self, idx: usize, message: Message) -> PiFed
+    fn wait_params(self, idx: usize, message: Message) -> Answer<PiSequencer>
         ensures { result ≡ arm_at (param_row idx) (next (PiStep.WaitParams idx)) past self (sent 0 message [] []) }
     {
-        if let Message::ParamValue(_) = message {
-            if idx < 8 {
-                return moved(PiStep::WaitParams { idx: idx + 1 }, self.replies);
+        match message {
+            Message::ParamValue(_) if idx < 8 => {
+                moved(PiStep::WaitParams { idx: idx + 1 }, self.replies)
             }
-            return moved(PiStep::Done, self.replies);
+            Message::ParamValue(_) => moved(PiStep::Done, self.replies),
+            _ => Answer::accepted(None, self),
         }
-        self.idle()
     }
 
-    fn feed_pi(self, type_id: u8, message: Message, text: &[u8], payload: &[u8]) -> PiFed
+    fn feed_pi(
+        self,
+        type_id: u8,
+        message: Message,
+        text: &[u8],
+        payload: &[u8],
+    ) -> Answer<PiSequencer>
         ensures { result ≡ advance self (sent type_id message text.now payload.now) }
     {
-        let step = self.step;
-        match step {
+        match self.step {
             PiStep::WaitStatus => {
                 if let Message::PiStatus = message {
                     return moved(PiStep::WaitDevInfo, self.replies);
@@ -215,24 +163,15 @@ impl PiSequencer {
             PiStep::WaitParams { idx } => return self.wait_params(idx, message),
             PiStep::Done => {}
         }
-        self.idle()
+        Answer::accepted(None, self)
     }
 
     // ---- the calls
 
-    pub fn new() -> PiFed
+    pub fn new() -> Answer<PiSequencer>
         ensures { result ≡ begun }
     {
-        let action = request(PiStep::WaitStatus);
-        let replies = no_replies();
-        PiFed {
-            outcome: Outcome::Accepted,
-            action: action,
-            seq: PiSequencer {
-                step: PiStep::WaitStatus,
-                replies: replies,
-            },
-        }
+        moved(PiStep::WaitStatus, no_replies())
     }
 
     pub fn feed(
@@ -242,35 +181,25 @@ impl PiSequencer {
         message: Message,
         text: &[u8],
         payload: &[u8],
-    ) -> PiFed
+    ) -> Answer<PiSequencer>
         ensures { result ≡ fed_to self (record { src = src; type_id = type_id; message = message; params = []; text = text.now; payload = payload.now }) }
     {
-        let outcome = sequence::accept_bytes(text, payload);
-        match outcome {
-            Outcome::Accepted => match src {
-                BusAddr::Pi => return self.feed_pi(type_id, message, text, payload),
-                _ => return self.idle(),
+        match sequence::accept_bytes(text, payload) {
+            Ok(()) => match src {
+                BusAddr::Pi => self.feed_pi(type_id, message, text, payload),
+                _ => Answer::accepted(None, self),
             },
-            Outcome::Refused(refusal) => return self.refuse(refusal),
+            Err(refusal) => Answer::refused(refusal, self),
         }
     }
 
     // The result, once Done.
-    pub fn into_result(self) -> PiFinished
+    pub fn into_result(self) -> Result<PiSync, Refusal>
         ensures { result ≡ finished self }
     {
-        let step = self.step;
-        if let PiStep::Done = step {
-            let sync = sync(self.replies);
-            return PiFinished {
-                outcome: Outcome::Accepted,
-                sync: sync,
-            };
-        }
-        let sync = sync(no_replies());
-        PiFinished {
-            outcome: Outcome::Refused(Refusal::NotDone),
-            sync: sync,
+        match self.step {
+            PiStep::Done => Ok(PiSync::from(self.replies)),
+            _ => Err(Refusal::NotDone),
         }
     }
 }

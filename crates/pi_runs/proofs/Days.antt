@@ -10,8 +10,8 @@ use Rattle.protocol.specs.declared.Message.{Message}
 use Rattle.protocol.specs.declared.CamConfig.{CamConfig}
 use Rattle.protocol.specs.declared.ParamData.{ParamData}
 use lib.IntN.{ℤ}
-use Rattle.protocol.specs.declared.Outcome.{Outcome}
-use Rattle.protocol.specs.Refusals.{outcome}
+use Rattle.std.specs.Prelude.{Ok, Err}
+use Rattle.protocol.specs.declared.Refusal.{Refusal}
 use Rattle.protocol.specs.Stored.{stored}
 use Rattle.matching.specs.Promise.{after_all, events, Matched, First}
 use Rattle.matching.proofs.Called.{run_rises}
@@ -22,7 +22,7 @@ use Rattle.sequence.specs.Calls.{Untimed}
 use Rattle.pi_table.specs.declared.PiStep.{PiStep}
 use Rattle.pi.specs.declared.PiSequencer.{PiSequencer}
 use Rattle.pi_table.specs.Table.{table}
-use Rattle.pi.specs.Answers.{begun, finished, no_sync, is_done}
+use Rattle.pi.specs.Answers.{begun, finished, is_done}
 use Rattle.pi.specs.Calls.{PiCall, into_result, after, event}
 use Rattle.pi_runs.proofs.Whole.{anti, sequencer, right}
 
@@ -82,18 +82,15 @@ module _ (a b : CamConfig) where
   unfolding stored
   not_yet d = true≢false (ap is_done (sym ((right early).ends.done.1 d)))
 
-  pub asked_early : finished (state early) ≡ record { outcome = outcome 12; sync = no_sync }
+  pub asked_early : finished (state early) ≡ Err Refusal.NotDone
   asked_early = (right day).asked.before early _ refl not_yet
 
   -- the first device info, the second camera configuration, the second network text
   pub result : finished (state whole)
-      ≡ record {
-        outcome = Outcome.Accepted;
-        sync = record {
-          dev_info = record { text = stored (49 ∷ []); payload = stored (50 ∷ []) };
-          cam_config = b;
-          ssid = stored (67 ∷ []);
-          password = stored (68 ∷ 0 ∷ []);
-        };
-      }
+      ≡ Ok (record {
+        dev_info = record { text = stored (49 ∷ []); payload = stored (50 ∷ []) };
+        cam_config = b;
+        ssid = stored (67 ∷ []);
+        password = stored (68 ∷ 0 ∷ []);
+      })
   result = (right day).asked.from whole _ refl whole_ticked_off (places day) earliest

@@ -6,14 +6,16 @@ use mathlib.Core.Path.{◌≡◌, refl, subst⁻¹}
 use mathlib.Core.Bool.{false}
 use mathlib.Core.List.{List, [], ◌∷◌}
 use lib.ListN.{length, get_or}
-use Rattle.protocol.specs.Refusals.{outcome}
+use Rattle.std.specs.Prelude.{Ok, Err}
+use Rattle.protocol.specs.declared.Refusal.{Refusal}
 use Rattle.matching.specs.Promise.{Each}
 use Rattle.matching.proofs.Machine.{Antitone}
 use Rattle.matching.proofs.Called.{Called}
 use Rattle.matching.proofs.Spelled.{spelled}
 use Rattle.matching.proofs.Promised as promised
 use Rattle.sequence.specs.Events.{Envelope, Event, checked, reading, forever}
-use Rattle.sequence.specs.Rows.{State}
+use Rattle.sequence.specs.declared.Answer.{Answer}
+use Rattle.sequence.specs.Rows.{State, refused}
 use Rattle.sequence.specs.Calls.{Untimed}
 use Rattle.sequence.proofs.Standing as rows
 use Rattle.sequence.proofs.Fed as fed
@@ -21,10 +23,9 @@ use Rattle.pi_table.specs.declared.PiStep.{PiStep}
 use Rattle.pi_table.specs.declared.PiStep.TheVariants.{WaitStatus, WaitDevInfo, WaitParam0A, WaitCamConfig1, WaitCamConfig2, WaitNetConfig, WaitNetConfigPw, WaitParams, Done}
 use Rattle.pi_table.specs.declared.PiReplies.{PiReplies}
 use Rattle.pi.specs.declared.PiSequencer.{PiSequencer}
-use Rattle.pi.specs.declared.PiFed.{PiFed}
 use Rattle.pi_table.specs.Stores.{no_replies}
 use Rattle.pi_table.specs.Table.{row, next, steps, table}
-use Rattle.pi.specs.Answers.{view, advance, refused, finished, no_sync, is_done}
+use Rattle.pi.specs.Answers.{view, advance, finished, is_done}
 use Rattle.pi.specs.Calls.{Asked, into_result, after, event}
 use Rattle.pi_runs.specs.Theorem.{result_of, Theorem}
 
@@ -51,7 +52,7 @@ waitless Done = refl
 abbrev unview : State PiStep PiReplies → PiSequencer
 unview s = record { step = s.step; replies = s.replies }
 
-abbrev seq : PiFed → PiSequencer
+abbrev seq : Answer PiSequencer → PiSequencer
 seq f = f.seq
 
 -- into_result is the only call that is no feed
@@ -85,7 +86,7 @@ pub anti : Each Antitone table
 anti = rows.table_antitone row next Done steps
 
 abbrev Is : List E → Type 0
-Is l = finished (state_of l 0 tt) ≡ record { outcome = outcome 0; sync = result_of (λ k. get_or l (k - 1) nil) }
+Is l = finished (state_of l 0 tt) ≡ Ok (result_of (λ k. get_or l (k - 1) nil))
 
 sixteen : (a b c d e f g h i j k l m n o p : E) → Is (a ∷ b ∷ c ∷ d ∷ e ∷ f ∷ g ∷ h ∷ i ∷ j ∷ k ∷ l ∷ m ∷ n ∷ o ∷ p ∷ [])
 sixteen a b c d e f g h i j k l m n o p = refl
@@ -96,13 +97,13 @@ written es t x h =
     subst⁻¹ Is (spelled nil es 16 h)
     (sixteen (at 0) (at 1) (at 2) (at 3) (at 4) (at 5) (at 6) (at 7) (at 8) (at 9) (at 10) (at 11) (at 12) (at 13) (at 14) (at 15))
 
-too_early : (es : List E) (t : ℕ) (x : Unit {0}) → length es < length table → finished (state_of es t x) ≡ record { outcome = outcome 12; sync = no_sync }
+too_early : (es : List E) (t : ℕ) (x : Unit {0}) → length es < length table → finished (state_of es t x) ≡ Err Refusal.NotDone
 too_early es t x h = rw (rows.before_done row next Done steps is_done refl others (length es) h)
 
 pub right : Theorem
 right cs =
     record {
       ends = fed.ends row next Done steps no_replies view unview seq advance refused after feeds is_done refl others (λ s. s.step) (λ s. refl) cs;
-      asked = promised.answers nil anti sequencer tt (Untimed.ask into_result) finished (record { outcome = outcome 12; sync = no_sync })
-          (λ f. record { outcome = outcome 0; sync = result_of f }) too_early written cs;
+      asked = promised.answers nil anti sequencer tt (Untimed.ask into_result) finished (Err Refusal.NotDone)
+          (λ f. Ok (result_of f)) too_early written cs;
     }

@@ -1,8 +1,9 @@
 -- THE THEOREM of the Pi start-up: the promise (crate matching, Promise.antt) with its table and its result. Definitions only; the proof is
 -- proofs/Whole.antt.
 -- Assumes nothing.
-use Rattle.std.specs.Prelude.{ℕ, ◌≡◌, List}
-use Rattle.protocol.specs.Refusals.{outcome}
+use Rattle.std.specs.Prelude.{ℕ, ◌≡◌, List, Ok, Err, unwrap_or}
+use Rattle.protocol.specs.declared.Refusal.{Refusal}
+use Rattle.protocol.specs.Carried.{no_dev_info, no_cam_config}
 use Rattle.matching.specs.Promise.{Ends, Answers}
 use Rattle.sequence.specs.Events.{Envelope, Event, checked, reading}
 use Rattle.sequence.specs.Calls.{Untimed}
@@ -11,14 +12,14 @@ use Rattle.pi_table.specs.declared.PiStep.{PiStep}
 use Rattle.pi.specs.declared.PiSync.{PiSync}
 use Rattle.pi_table.specs.Stores.{cam_config_in, ssid_in, password_in}
 use Rattle.pi_table.specs.Table.{table}
-use Rattle.pi.specs.Answers.{begun, finished, no_sync}
+use Rattle.pi.specs.Answers.{begun, finished}
 use Rattle.pi.specs.Calls.{PiCall, into_result, after, event}
 
 -- each record is that of the event at its entry's place (`at k`: of entry k)
 abbrev pub result_of : (ℕ → Event Envelope) → PiSync
 result_of at = record {
-  dev_info = (dev_info_in (λ v. v) (at 2)).value;
-  cam_config = (cam_config_in (at 5)).value;
+  dev_info = unwrap_or (dev_info_in (λ v. v) (at 2)) no_dev_info;
+  cam_config = unwrap_or (cam_config_in (at 5)) no_cam_config;
   ssid = ssid_in (at 7);
   password = password_in (at 7);
 }
@@ -27,7 +28,7 @@ result_of at = record {
 pub record Right (cs : List PiCall) : Type 0 where
   pub ends : Ends reading (checked 0) event begun.seq after table (λ s. s.step ≡ PiStep.Done) cs
   pub asked : Answers reading (checked 0) event begun.seq after table (Untimed.ask into_result) finished
-      (record { outcome = outcome 12; sync = no_sync }) (λ since at. record { outcome = outcome 0; sync = result_of at }) cs
+      (Err Refusal.NotDone) (λ since at. Ok (result_of at)) cs
 
 -- for every list of calls
 abbrev pub Theorem : Type 0

@@ -1,28 +1,25 @@
 -- What a Pi start-up stores: what is absent, what an event leaves in a field, which entry stores which field; and its sends.
 -- Definitions only.
 -- Assumes nothing.
-use Rattle.std.specs.Prelude.{ℕ, ◌+◌, Bool, true, false, cond, [], eqb, take, drop}
+use Rattle.std.specs.Prelude.{ℕ, ◌+◌, Bool, cond, [], eqb, take, drop, Option, Some, None}
 use Rattle.protocol.specs.declared.BusAddr.{BusAddr}
+use Rattle.protocol.specs.declared.CamConfig.{CamConfig}
 use Rattle.protocol.specs.declared.Stored.{Stored}
 use Rattle.protocol.specs.declared.Command.{Command}
 use Rattle.protocol.specs.declared.Action.{Action}
 use Rattle.protocol.specs.Action.{send_to}
-use Rattle.protocol.specs.Carried.{no_cam_config, carried}
+use Rattle.protocol.specs.Carried.{carried}
 use Rattle.protocol.specs.Stored.{stored}
 use Rattle.net_config.specs.Zero.{first_zero}
 use Rattle.requests.specs.Requests as requests
 use Rattle.sequence.specs.Events.{Envelope, Event, fed, checked, kind}
-use Rattle.sequence.specs.Replies.{no_dev_info, dev_info_in}
-use Rattle.pi_table.specs.declared.OptionCamConfig.{OptionCamConfig}
+use Rattle.sequence.specs.Replies.{dev_info_in}
 use Rattle.pi_table.specs.declared.PiReplies.{PiReplies}
 
 -- ---- what is absent
 
-abbrev pub no_cam : OptionCamConfig
-no_cam = record { some = false; value = no_cam_config }
-
 abbrev pub no_replies : PiReplies
-no_replies = record { dev_info = no_dev_info; cam_config = no_cam; ssid = stored []; password = stored [] }
+no_replies = record { dev_info = None; cam_config = None; ssid = stored []; password = stored [] }
 
 -- ---- what an event leaves in a field
 
@@ -30,9 +27,9 @@ no_replies = record { dev_info = no_dev_info; cam_config = no_cam; ssid = stored
 abbrev pub from_pi : ℕ → Envelope → Bool
 from_pi k e = kind 0x12 k e
 
-abbrev pub cam_config_in : Event Envelope → OptionCamConfig
-cam_config_in (fed e t) = record { some = true; value = (carried e.message).cam }
-cam_config_in (checked t) = no_cam
+abbrev pub cam_config_in : Event Envelope → Option CamConfig
+cam_config_in (fed e t) = Some (carried e.message).cam
+cam_config_in (checked t) = None
 
 -- the network text: before its first zero byte the ssid, all after it the password
 abbrev pub ssid_in : Event Envelope → Stored

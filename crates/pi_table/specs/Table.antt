@@ -1,11 +1,10 @@
 -- THE TABLE of a Pi start-up (01: "Pi result"): its entries in order, each with who ticks it, what is sent then, and what is stored; then
 -- the steps at which they are awaited. Definitions only.
 -- Assumes nothing.
-use Rattle.std.specs.Prelude.{ℕ, ◌+◌, true, false, cond, List, [], ◌∷◌, map, ltb, get_or}
+use Rattle.std.specs.Prelude.{ℕ, ◌+◌, true, false, cond, List, [], ◌∷◌, map, ltb, get_or, Option, Some, None}
 use Rattle.protocol.specs.declared.BusAddr.{BusAddr}
 use Rattle.protocol.specs.declared.Command.{Command}
 use Rattle.protocol.specs.declared.Action.{Action}
-use Rattle.protocol.specs.Action.{no_action}
 use Rattle.protocol.specs.Kinds as kinds
 use Rattle.matching.specs.Matching.{Table}
 use Rattle.sequence.specs.Events.{Envelope, Event, forever}
@@ -20,44 +19,44 @@ abbrev pub PiRow : Type 0
 PiRow = Row Envelope PiReplies
 
 -- a reply of this kind; what is sent then; the entry's number, by which it is stored (of a ParamValue nothing is)
-abbrev pub entry : ℕ → Action → ℕ → PiRow
+abbrev pub entry : ℕ → Option Action → ℕ → PiRow
 entry k a n = record { reply = from_pi k; wait = forever; send = λ e. a; store = store n }
 
 -- 1. a PiStatus; then the device info is asked for
 abbrev pub entry1 : PiRow
-entry1 = entry kinds.pi_status (to_pi Command.DevInfoReq) 1
+entry1 = entry kinds.pi_status (Some (to_pi Command.DevInfoReq)) 1
 
 -- 2. a DevInfoResp; then parameter 0x0A
 abbrev pub entry2 : PiRow
-entry2 = entry kinds.dev_info_resp (param_read_req 0x0A) 2
+entry2 = entry kinds.dev_info_resp (Some (param_read_req 0x0A)) 2
 
 -- 3. a ParamValue; then the camera's configuration is asked for
-abbrev pub param_entry : Action → PiRow
+abbrev pub param_entry : Option Action → PiRow
 param_entry a = entry kinds.param_value a 3
 
 abbrev pub entry3 : PiRow
-entry3 = param_entry (to_pi Command.CamConfigReq)
+entry3 = param_entry (Some (to_pi Command.CamConfigReq))
 
 -- 4. and 5. a CamConfig, twice; then it is asked for again, then the network without its password
 abbrev pub entry4 : PiRow
-entry4 = entry kinds.cam_config (to_pi Command.CamConfigReq) 4
+entry4 = entry kinds.cam_config (Some (to_pi Command.CamConfigReq)) 4
 
 abbrev pub entry5 : PiRow
-entry5 = entry kinds.cam_config (net_config_req false) 5
+entry5 = entry kinds.cam_config (Some (net_config_req false)) 5
 
 -- 6. and 7. a NetConfigResp, twice; then it is asked for with its password, then the first of nine parameters
 abbrev pub entry6 : PiRow
-entry6 = entry kinds.net_config_resp (net_config_req true) 6
+entry6 = entry kinds.net_config_resp (Some (net_config_req true)) 6
 
 abbrev pub ids : List ℕ
 ids = 0x01 ∷ 0x07 ∷ 0x08 ∷ 0x09 ∷ 0x06 ∷ 0x0B ∷ 0x03 ∷ 0x04 ∷ 0x05 ∷ []
 
 abbrev pub entry7 : PiRow
-entry7 = entry kinds.net_config_resp (param_read_req (get_or ids 0 0)) 7
+entry7 = entry kinds.net_config_resp (Some (param_read_req (get_or ids 0 0))) 7
 
 -- 8. to 16. a ParamValue, nine times; then the next parameter, and after the last it is done
 abbrev pub param_row : ℕ → PiRow
-param_row i = param_entry (cond (ltb i 8) (param_read_req (get_or ids (i + 1) 0)) no_action)
+param_row i = param_entry (cond (ltb i 8) (Some (param_read_req (get_or ids (i + 1) 0))) None)
 
 -- ---- the steps in order, the row of each, and the step after each (Done after the last)
 
@@ -89,16 +88,16 @@ next (WaitParams i) = cond (ltb i 8) (WaitParams (i + 1)) Done
 next Done = Done
 
 -- what is asked when a step begins: what the entry before it sends (the first step begins with `new`, which polls)
-abbrev pub request : PiStep → Action
-request WaitStatus = status_poll true BusAddr.Pi
-request WaitDevInfo = to_pi Command.DevInfoReq
-request WaitParam0A = param_read_req 0x0A
-request WaitCamConfig1 = to_pi Command.CamConfigReq
-request WaitCamConfig2 = to_pi Command.CamConfigReq
-request WaitNetConfig = net_config_req false
-request WaitNetConfigPw = net_config_req true
-request (WaitParams i) = cond (ltb i 9) (param_read_req (get_or ids i 0)) no_action
-request Done = no_action
+abbrev pub request : PiStep → Option Action
+request WaitStatus = Some (status_poll true BusAddr.Pi)
+request WaitDevInfo = Some (to_pi Command.DevInfoReq)
+request WaitParam0A = Some (param_read_req 0x0A)
+request WaitCamConfig1 = Some (to_pi Command.CamConfigReq)
+request WaitCamConfig2 = Some (to_pi Command.CamConfigReq)
+request WaitNetConfig = Some (net_config_req false)
+request WaitNetConfigPw = Some (net_config_req true)
+request (WaitParams i) = cond (ltb i 9) (Some (param_read_req (get_or ids i 0))) None
+request Done = None
 
 abbrev pub table : Table (Event Envelope)
 table = map (λ k. test (row k)) steps

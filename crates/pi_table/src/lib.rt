@@ -5,13 +5,13 @@
 ghost use Rattle.std.specs.Prelude.{◌≡◌};
 ghost use Rattle.pi_table.specs.Table.{request};
 
-use protocol::{Action, BusAddr, CamConfig, Command, OptionDevInfoResp, Stored};
+use protocol::{Action, BusAddr, CamConfig, Command, DevInfoResp, Stored};
 use requests::{net_config_req, param_read_req, status_poll};
 
 // The parameters that are read last, in this order.
 const IDS: [u8; 9] = [0x01, 0x07, 0x08, 0x09, 0x06, 0x0B, 0x03, 0x04, 0x05];
 
-#[derive(Clone, Copy)]
+#[derive(Clone, Copy, PartialEq, Eq)]
 pub enum PiStep {
     WaitStatus,
     WaitDevInfo,
@@ -25,41 +25,30 @@ pub enum PiStep {
     Done,
 }
 
-#[repr(C)]
-#[derive(Clone, Copy)]
-pub struct OptionCamConfig {
-    pub some: bool,
-    pub value: CamConfig,
-}
-
-#[repr(C)]
+// The stored replies.
 #[derive(Clone, Copy)]
 pub struct PiReplies {
-    pub dev_info: OptionDevInfoResp,
-    pub cam_config: OptionCamConfig,
+    pub dev_info: Option<DevInfoResp>,
+    pub cam_config: Option<CamConfig>,
     pub ssid: Stored,
     pub password: Stored,
 }
 
-// What is asked when a step begins.
-pub fn request(step: PiStep) -> Action
+// What is asked when a step begins; at Done nothing is.
+pub fn request(step: PiStep) -> Option<Action>
     ensures { result ≡ request step }
 {
-    match step {
-        PiStep::WaitStatus => return status_poll(true, BusAddr::Pi),
-        PiStep::WaitDevInfo => return Action::send(Command::DevInfoReq, BusAddr::Pi),
-        PiStep::WaitParam0A => return param_read_req(0x0A, BusAddr::Pi),
+    let action = match step {
+        PiStep::WaitStatus => status_poll(true, BusAddr::Pi),
+        PiStep::WaitDevInfo => Action::send(Command::DevInfoReq, BusAddr::Pi),
+        PiStep::WaitParam0A => param_read_req(0x0A, BusAddr::Pi),
         PiStep::WaitCamConfig1 | PiStep::WaitCamConfig2 => {
-            return Action::send(Command::CamConfigReq, BusAddr::Pi);
+            Action::send(Command::CamConfigReq, BusAddr::Pi)
         }
-        PiStep::WaitNetConfig => return net_config_req(false),
-        PiStep::WaitNetConfigPw => return net_config_req(true),
-        PiStep::WaitParams { idx } => {
-            if idx < 9 {
-                return param_read_req(IDS[idx], BusAddr::Pi);
-            }
-        }
-        PiStep::Done => {}
-    }
-    Action::none()
+        PiStep::WaitNetConfig => net_config_req(false),
+        PiStep::WaitNetConfigPw => net_config_req(true),
+        PiStep::WaitParams { idx } => param_read_req(*IDS.get(idx)?, BusAddr::Pi),
+        PiStep::Done => return None,
+    };
+    Some(action)
 }

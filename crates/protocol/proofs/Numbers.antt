@@ -7,10 +7,10 @@ use Prim.Native.Nat.{ℕ, ◌≤◌, ◌<◌}
 use native.Mathlib.Nat.{le_refl, le_trans, le_of_lt}
 use Rattle.protocol.specs.declared.Refusal.{Refusal}
 use Rattle.protocol.specs.declared.Refusal.TheVariants.{TextTooLong, PayloadTooLong, ReadingTooLarge, TooManyParams, ReadingBelowLast, NotDone, RetriesFull}
-use Rattle.protocol.specs.declared.Outcome.TheVariants.{Refused}
+use Rattle.std.specs.Prelude.{Err}
 use Rattle.protocol.specs.Refusals.{number, outcome, Applies, lowest}
 
-pub outcome-number : (r : Refusal) → outcome (number r) ≡ Refused r
+pub outcome-number : (r : Refusal) → outcome (number r) ≡ Err r
 outcome-number TextTooLong = refl
 outcome-number PayloadTooLong = refl
 outcome-number ReadingTooLarge = refl

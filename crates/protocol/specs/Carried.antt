@@ -1,12 +1,13 @@
 -- What a message carries, of that which a table looks at or stores. Definitions only.
 -- Assumes nothing.
-use Rattle.std.specs.Prelude.{false, ℤ}
+use Rattle.std.specs.Prelude.{[], false, ℤ, replicate}
 use Rattle.std.specs.Float.{binary64}
 use Rattle.std.specs.Float.Ieee.{of_bits}
-use Rattle.protocol.specs.declared.BusAddr.{BusAddr}
 use Rattle.protocol.specs.declared.CamConfig.{CamConfig}
 use Rattle.protocol.specs.declared.ConfigAck.{ConfigAck}
-use Rattle.protocol.specs.declared.OptionNack.{OptionNack}
+use Rattle.protocol.specs.declared.ConfigResp.{ConfigResp}
+use Rattle.protocol.specs.declared.DevInfoResp.{DevInfoResp}
+use Rattle.protocol.specs.Stored.{stored}
 use Rattle.protocol.specs.declared.DspStatus80.{DspStatus80}
 use Rattle.protocol.specs.declared.DspStatus.{DspStatus}
 use Rattle.protocol.specs.declared.AvrStatus.{AvrStatus}
@@ -17,9 +18,6 @@ use Rattle.protocol.specs.declared.Message.TheVariants as Msg
 -- of an absent record each field is 0, false or its type's first case
 abbrev pub no_ack : ConfigAck
 no_ack = record { bus_addr = 0; acked_cmd = 0 }
-
-abbrev pub no_nack : OptionNack
-no_nack = record { some = false; src = BusAddr.App; type_id = 0; nack = no_ack }
 
 abbrev pub no_query_resp : DspQueryResp
 no_query_resp = record { version = 0; dsp_type = 0; pcb = 0 }
@@ -51,6 +49,12 @@ no_avr_status = record {
   tilt = of_bits binary64 0;
   roll = of_bits binary64 0;
 }
+
+abbrev pub no_dev_info : DevInfoResp
+no_dev_info = record { text = stored []; payload = stored [] }
+
+abbrev pub no_config : ConfigResp
+no_config = record { params = replicate 34 (ℤ.pos 0) }
 
 abbrev pub no_cam_config : CamConfig
 no_cam_config = record {

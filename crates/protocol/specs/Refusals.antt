@@ -1,10 +1,8 @@
 -- The numbers of the refusals (01: "When a call is declined"). Definitions only.
 -- Assumes nothing.
-use Rattle.std.specs.Prelude.{ℕ, Bool, cond, List, [], ◌∷◌, eqb}
+use Rattle.std.specs.Prelude.{ℕ, Bool, cond, List, [], ◌∷◌, eqb, Result, Ok, Err}
 use Rattle.protocol.specs.declared.Refusal.{Refusal}
 use Rattle.protocol.specs.declared.Refusal.TheVariants.{TextTooLong, PayloadTooLong, ReadingTooLarge, TooManyParams, ReadingBelowLast, NotDone, RetriesFull}
-use Rattle.protocol.specs.declared.Outcome.{Outcome}
-use Rattle.protocol.specs.declared.Outcome.TheVariants.{Accepted, Refused}
 
 abbrev pub number : Refusal → ℕ
 -- a feed whose text exceeds 256 bytes
@@ -27,12 +25,12 @@ abbrev pub refusals : List Refusal
 refusals = TextTooLong ∷ PayloadTooLong ∷ ReadingTooLarge ∷ TooManyParams ∷ ReadingBelowLast ∷ NotDone ∷ RetriesFull ∷ []
 
 -- refused with the first of rs that has the number n; accepted if none has
-abbrev pub among : List Refusal → ℕ → Outcome
-among [] n = Accepted
-among (r ∷ rs) n = cond (eqb (number r) n) (Refused r) (among rs n)
+abbrev pub among : List Refusal → ℕ → Result (Unit {0}) Refusal
+among [] n = Ok tt
+among (r ∷ rs) n = cond (eqb (number r) n) (Err r) (among rs n)
 
 -- the outcome with the number n; no refusal has the number 0, which says that none applies
-abbrev pub outcome : ℕ → Outcome
+abbrev pub outcome : ℕ → Result (Unit {0}) Refusal
 outcome n = among refusals n
 
 -- a number of 01's list, and whether it applies to a call

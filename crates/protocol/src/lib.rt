@@ -2,17 +2,17 @@
 #![tactic(auto)]
 
 ghost use Rattle.std.specs.Prelude.{◌≡◌};
-ghost use Rattle.protocol.specs.Action.{no_action, send_to};
+ghost use Rattle.protocol.specs.Action.{send_to};
 
+mod absent;
 mod addr;
-mod camera;
 mod number;
 mod status;
 mod store;
 
 // ---- bus addresses of the unit's internal network (src/addr.rs)
 
-#[derive(Clone, Copy)]
+#[derive(Clone, Copy, PartialEq, Eq)]
 pub enum BusAddr {
     // the client application
     App,
@@ -34,9 +34,9 @@ pub struct Stored {
     pub len: usize,
 }
 
-// ---- what becomes of a call: it is accepted, or refused with a number
+// ---- why a call is refused
 
-#[derive(Clone, Copy)]
+#[derive(Clone, Copy, PartialEq, Eq)]
 pub enum Refusal {
     TextTooLong,
     PayloadTooLong,
@@ -45,12 +45,6 @@ pub enum Refusal {
     ReadingBelowLast,
     NotDone,
     RetriesFull,
-}
-
-#[derive(Clone, Copy)]
-pub enum Outcome {
-    Accepted,
-    Refused(Refusal),
 }
 
 // ---- status and acknowledgement records (src/protocol/status.rs)
@@ -116,8 +110,7 @@ pub struct ConfigAck {
 
 // A nack with the source and the type id of its envelope.
 #[derive(Clone, Copy)]
-pub struct OptionNack {
-    pub some: bool,
+pub struct Nack {
     pub src: BusAddr,
     pub type_id: u8,
     pub nack: ConfigAck,
@@ -171,13 +164,6 @@ pub struct ConfigResp {
 
 #[repr(C)]
 #[derive(Clone, Copy)]
-pub struct OptionConfigResp {
-    pub some: bool,
-    pub value: ConfigResp,
-}
-
-#[repr(C)]
-#[derive(Clone, Copy)]
 pub struct AvrConfigResp {
     pub payload: Stored,
 }
@@ -199,13 +185,6 @@ pub struct DspQueryResp {
 pub struct DevInfoResp {
     pub text: Stored,
     pub payload: Stored,
-}
-
-#[repr(C)]
-#[derive(Clone, Copy)]
-pub struct OptionDevInfoResp {
-    pub some: bool,
-    pub value: DevInfoResp,
 }
 
 #[repr(C)]
@@ -338,11 +317,9 @@ pub enum Command {
     ConfigAck(ConfigAck),
 }
 
-// One command to send, or none: then every field is 0 or its type's first case. `payload` is that of a `CalDataReq`, `tail` that
-// of a `TimeSync`; both are 0 beside any other command.
+// One command to send. `payload` is that of a `CalDataReq`, `tail` that of a `TimeSync`; both are 0 beside any other command.
 #[derive(Clone, Copy)]
 pub struct Action {
-    pub some: bool,
     pub command: Command,
     pub dest: BusAddr,
     pub payload: [u8; 10],
@@ -350,26 +327,13 @@ pub struct Action {
 }
 
 impl Action {
-    pub fn none() -> Action
-        ensures { result ≡ no_action }
-    {
-        Action {
-            some: false,
-            command: Command::StatusPoll(StatusPoll { pi_mode: false }),
-            dest: BusAddr::App,
-            payload: [0u8; 10],
-            tail: [0u8; 2],
-        }
-    }
-
     // A command that has no bytes beside it.
     pub fn send(command: Command, dest: BusAddr) -> Action
         ensures { result ≡ send_to dest command }
     {
         Action {
-            some: true,
-            command: command,
-            dest: dest,
+            command,
+            dest,
             payload: [0u8; 10],
             tail: [0u8; 2],
         }

@@ -1,9 +1,8 @@
-// The acknowledgement that we send, and the absent nack.
+// The acknowledgement that we send.
 ghost use Rattle.std.specs.Prelude.{◌≡◌};
 ghost use Rattle.protocol.specs.Ack.{ack_of};
-ghost use Rattle.protocol.specs.Carried.{no_nack};
 
-use crate::{BusAddr, ConfigAck, OptionNack};
+use crate::{BusAddr, ConfigAck};
 
 impl ConfigAck {
     // The app's acknowledgement of a frame of this type.
@@ -13,22 +12,6 @@ impl ConfigAck {
         ConfigAck {
             bus_addr: BusAddr::App.as_byte(),
             acked_cmd: type_id & 0x7F,
-        }
-    }
-}
-
-impl OptionNack {
-    pub fn none() -> OptionNack
-        ensures { result ≡ no_nack }
-    {
-        OptionNack {
-            some: false,
-            src: BusAddr::App,
-            type_id: 0,
-            nack: ConfigAck {
-                bus_addr: 0,
-                acked_cmd: 0,
-            },
         }
     }
 }

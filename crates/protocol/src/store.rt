@@ -1,10 +1,11 @@
 // Storing bytes.
 ghost use Rattle.std.specs.Prelude.{◌≡◌, []};
-ghost use Rattle.protocol.specs.Stored.{stored};
+ghost use Rattle.protocol.specs.Stored.{stored, content};
 
 use crate::Stored;
 
 impl Stored {
+    #[tactic(auto, unfolding(crate::specs::Stored::stored))]
     pub fn empty() -> Stored
         ensures { result ≡ stored [] }
     {
@@ -19,18 +20,15 @@ impl Stored {
         ensures { result ≡ stored s.now }
     {
         let mut bytes = [0u8; 256];
-        let mut n = s.len();
-        if 256 < n {
-            n = 256;
-        }
-        let mut i = 0;
-        while i < n {
-            bytes[i] = s[i];
-            i += 1;
-        }
-        Stored {
-            bytes: bytes,
-            len: n,
-        }
+        let len = s.len().min(256);
+        bytes[..len].copy_from_slice(&s[..len]);
+        Stored { bytes, len }
+    }
+
+    // The bytes that are stored; a length past the array takes them all.
+    pub fn as_slice(&self) -> &[u8]
+        ensures { result.now ≡ content self.now }
+    {
+        &self.bytes[..self.len.min(256)]
     }
 }

@@ -1,10 +1,15 @@
 // Reads the lines of a list of calls, as docs/REPLAY.md says.
 #![tactic(auto)]
 
-pub mod call;
-pub mod cursor;
-mod fields;
-mod kind;
-mod lent;
-mod number;
-pub mod settings;
+mod bytes;
+mod call;
+mod message;
+mod reader;
+mod reason;
+mod run_settings;
+mod value;
+
+pub use bytes::Lent;
+pub use call::{Call, Calls, DeviceCall, Feed, Sequence, read_line};
+pub use reader::LINE;
+pub use reason::{Bad, Reason};

@@ -2,12 +2,14 @@
 // --status it ends with its exit status, and writes that to descriptor 3 too, if one is open for writing; else it ends with 0.
 #![tactic(auto)]
 
+use std::alloc::AllocError;
 use std::env::{Env, FillError};
 use std::fs::{File, OpenOptions};
-use std::io::{Error, Read, Write};
+use std::io::{ErrorKind, Write};
 use std::process::ExitCode;
-use streams::{Ended, Source};
-use words::{byte_at, find, part};
+use std::{fs, io};
+use streams::Failure;
+use streams::answers::Form;
 
 // The bytes that an argument may have.
 const WORD: usize = 4_096;
@@ -19,185 +21,152 @@ const FAILED: u8 = 2;
 
 const UNHEARD: u8 = 141;
 
-// What the command line asks. `file` is the number of its argument, or 0.
+// Why there are no answers, or not all of them.
+#[derive(Debug, Drop)]
+enum Error {
+    // the command line asks for nothing that there is
+    Usage,
+    // the file's name is not UTF-8
+    Name,
+    // the file can't be opened
+    File(io::Error),
+    List(Failure),
+}
+
+impl From<Failure> for Error {
+    fn from(failure: Failure) -> Error {
+        Error::List(failure)
+    }
+}
+
+// What the command line asks for. The name of a file is as it stands there, and need not be UTF-8.
 #[derive(Clone, Copy)]
-struct Task {
-    valid: bool,
-    with_state: bool,
-    shown: bool,
-    with_status: bool,
-    file: usize,
+struct Options<'a> {
+    form: Form,
+    file: Option<&'a [u8]>,
 }
 
-#[derive(Clone, Copy)]
-enum Argument {
-    State,
-    Show,
-    Status,
-    File,
-    Unknown,
-    // there is none of this number
-    Missing,
-}
-
-// Of an argument that is too long nothing is taken.
-fn read_argument(rt: &HostRuntime, i: usize) -> Argument {
-    let mut word = [0u8; WORD];
-    let n = match rt.arg(i, &mut word) {
-        Ok(n) => n,
-        Err(FillError::TooLong) => 0,
-        Err(FillError::NotPresent) => return Argument::Missing,
-    };
-    if check::same(&word[..n], b"--state") {
-        return Argument::State;
-    }
-    if check::same(&word[..n], b"--show") {
-        return Argument::Show;
-    }
-    if check::same(&word[..n], b"--status") {
-        return Argument::Status;
-    }
-    if n < 2 {
-        return Argument::File;
-    }
-    if word[0] == b'-' && word[1] == b'-' {
-        return Argument::Unknown;
-    }
-    Argument::File
-}
-
-impl Task {
-    fn with(self, argument: Argument, i: usize) -> Task {
-        let mut next = self;
-        match argument {
-            Argument::State => next.with_state = true,
-            Argument::Show => next.shown = true,
-            Argument::Status => next.with_status = true,
-            Argument::File => {
-                next.valid = self.file == 0 && self.valid;
-                next.file = i;
+impl<'a> Options<'a> {
+    fn read(words: &'a [Vec<u8>]) -> Result<Options<'a>, Error> {
+        let mut options = Options {
+            form: Form {
+                shown: false,
+                with_state: false,
+            },
+            file: None,
+        };
+        for word in words {
+            match word.as_slice() {
+                b"--state" => options.form.with_state = true,
+                b"--show" => options.form.shown = true,
+                b"--status" => {}
+                [b'-', b'-', ..] => return Err(Error::Usage),
+                file => {
+                    if options.file.replace(file).is_some() {
+                        return Err(Error::Usage);
+                    }
+                }
             }
-            Argument::Unknown => next.valid = false,
-            Argument::Missing => {}
         }
-        next
+        Ok(options)
+    }
+
+    // The file, where the list is not read from standard input.
+    fn named(&self) -> Option<&'a [u8]> {
+        self.file.filter(|name| *name != b"-".as_slice())
     }
 }
 
-fn read_task(rt: &HostRuntime) -> Task {
-    let mut task = Task {
-        valid: true,
-        with_state: false,
-        shown: false,
-        with_status: false,
-        file: 0,
-    };
-    for i in 1..usize::MAX {
-        let argument = read_argument(rt, i);
-        if let Argument::Missing = argument {
-            return task;
-        }
-        task = task.with(argument, i);
-    }
-    task
-}
-
-// Writes to standard error. Nothing can be said of a write there that fails.
-fn say(rt: &HostRuntime, what: &[u8]) {
-    let _ = rt.stderr().write_all(what);
-}
-
-// Writes a message, and answers the status that belongs to it.
-fn complain(rt: &HostRuntime, about: &[u8], what: &[u8]) -> u8 {
-    say(rt, b"replay: ");
-    say(rt, about);
-    say(rt, what);
-    FAILED
-}
-
-// The same of an error of the system. The number that std puts behind its text, in brackets, is left out.
-fn fail(rt: &HostRuntime, about: &[u8], error: Error) -> u8 {
-    let mut text = [0u8; 128];
-    let mut rest: &mut [u8] = &mut text;
-    let _ = write!(rest, "{error}");
-    let whole = part(&text, 0, find(&text, 0, 0));
-    let mut end = find(whole, 0, b'(');
-    if end < whole.len() {
-        end = end.saturating_sub(1);
-    }
-    complain(rt, about, b": ");
-    say(rt, part(whole, 0, end));
-    say(rt, b"\n");
-    FAILED
-}
-
-// The status of a list that ended so; `about` names its input.
-fn status(rt: &HostRuntime, ended: Ended, about: &[u8]) -> u8 {
-    if ended.unheard {
-        return UNHEARD;
-    }
-    if ended.unwritten {
-        return complain(rt, b"standard output", b": can't be written\n");
-    }
-    if ended.unread {
-        return complain(rt, about, b": can't be read\n");
-    }
-    if ended.bad_line {
-        return BAD_LINE;
-    }
-    0
-}
-
-fn replay_input(rt: &HostRuntime, with_state: bool, shown: bool) -> u8 {
-    let source = Source::Standard(rt.stdin());
-    let ended = lists::replay(source, rt.stdout(), with_state, shown);
-    status(rt, ended, b"standard input")
-}
-
-// `i` is the number of its argument.
-fn replay_file(rt: &HostRuntime, i: usize, with_state: bool, shown: bool) -> u8 {
+// The words behind the program's name. Of one that is too long nothing is taken.
+fn words(rt: &HostRuntime) -> Result<Vec<Vec<u8>>, AllocError> {
+    let mut words = Vec::new(rt.alloc());
     let mut word = [0u8; WORD];
-    let n = rt.arg(i, &mut word).unwrap_or(0);
-    let path = &word[..n];
-    if check::same(path, b"-") {
-        return replay_input(rt, with_state, shown);
+    for i in 1..usize::MAX {
+        let n = match rt.arg(i, &mut word) {
+            Ok(n) => n,
+            Err(FillError::TooLong) => 0,
+            Err(FillError::NotPresent) => break,
+        };
+        words.push(word[..n].to_vec(rt.alloc())?)?;
     }
-    let Ok(text) = std::str::from_utf8(path) else {
-        return complain(rt, path, b": not UTF-8\n");
+    Ok(words)
+}
+
+// Answers the list, and how many of its lines could not be read.
+fn answer(rt: &HostRuntime, options: Options<'_>) -> Result<u64, Error> {
+    let Some(name) = options.named() else {
+        return Ok(lists::replay(rt.alloc(), rt.stdin(), rt.stdout(), options.form)?);
     };
-    match File::open(rt, text) {
-        Ok(file) => {
-            let ended = lists::replay(Source::Opened(&file), rt.stdout(), with_state, shown);
-            status(rt, ended, path)
-        }
-        Err(error) => fail(rt, path, error),
+    let Ok(path) = std::str::from_utf8(name) else {
+        return Err(Error::Name);
+    };
+    let file = File::open(rt, path).map_err(Error::File)?;
+    Ok(lists::replay(rt.alloc(), file, rt.stdout(), options.form)?)
+}
+
+// Writes a message to standard error. Nothing can be said of a write there that fails.
+fn complain(rt: &HostRuntime, about: &[u8], what: &str) {
+    let mut stderr = rt.stderr();
+    let _ = stderr.write_all(b"replay: ");
+    let _ = stderr.write_all(about);
+    let _ = stderr.write_all(what.as_bytes());
+    let _ = stderr.write_all(b"\n");
+}
+
+// The text of an error of the system, without the number that std puts behind it, in brackets.
+fn without_number(text: &str) -> &str {
+    match text.split_once(" (") {
+        Some((said, _)) => said,
+        None => text,
     }
 }
 
-fn run(rt: &HostRuntime, task: Task) -> u8 {
-    if !task.valid {
-        return complain(rt, b"usage: replay [--show] [--state] [FILE]", b"\n");
+// The same of an error of the system.
+fn complain_of(rt: &HostRuntime, name: &[u8], error: &io::Error) {
+    match format!(in rt.alloc(); ": {error}") {
+        Ok(text) => complain(rt, name, without_number(text.as_str())),
+        Err(_) => complain(rt, name, ": can't be opened"),
     }
-    if task.file == 0 {
-        return replay_input(rt, task.with_state, task.shown);
+}
+
+// The status, of a list that comes from an input of this name. Why it failed is said.
+fn status(rt: &HostRuntime, name: &[u8], answered: Result<u64, Error>) -> u8 {
+    match answered {
+        Ok(0) => return 0,
+        Ok(_) => return BAD_LINE,
+        Err(Error::Usage) => complain(rt, b"usage: replay [--show] [--state] [FILE]", ""),
+        Err(Error::Name) => complain(rt, name, ": not UTF-8"),
+        Err(Error::File(error)) => complain_of(rt, name, &error),
+        Err(Error::List(Failure::Input)) => complain(rt, name, ": can't be read"),
+        Err(Error::List(Failure::OutOfMemory)) => complain(rt, b"out of memory", ""),
+        Err(Error::List(Failure::Output(error))) => {
+            if error.kind() == ErrorKind::BrokenPipe {
+                return UNHEARD;
+            }
+            complain(rt, b"standard output", ": can't be written");
+        }
     }
-    replay_file(rt, task.file, task.with_state, task.shown)
+    FAILED
+}
+
+fn run(rt: &HostRuntime, words: &[Vec<u8>]) -> u8 {
+    match Options::read(words) {
+        Ok(options) => {
+            let name = options.named().unwrap_or(b"standard input");
+            status(rt, name, answer(rt, options))
+        }
+        Err(error) => status(rt, b"", Err(error)),
+    }
 }
 
 // Whether descriptor 3 is open for writing. What the system says of it has in its second line the octal flags, whose last digit says so.
 fn is_heard(rt: &HostRuntime) -> bool {
-    let mut text = [0u8; 256];
-    let n = match File::open(rt, "/proc/self/fdinfo/3") {
-        Ok(file) => {
-            let mut reader = &file;
-            reader.read(&mut text).unwrap_or(0)
-        }
-        Err(_) => 0,
+    let Ok(said) = fs::read_to_string(rt, "/proc/self/fdinfo/3") else {
+        return false;
     };
-    let said = part(&text, 0, n);
-    let second = find(said, 0, b'\n').saturating_add(1);
-    let end = find(said, second, b'\n');
-    byte_at(said, end.saturating_sub(1)) % 4 != 0
+    let flags = said.lines().nth(1);
+    let digit = flags.and_then(|flags| flags.as_bytes().last());
+    digit.is_some_and(|digit| digit % 4 != 0)
 }
 
 // Writes the status as a digit to descriptor 3, if one is open for writing.
@@ -207,19 +176,22 @@ fn tell(rt: &HostRuntime, status: u8) {
     }
     let mut how = OpenOptions::new();
     how.read(true).append(true);
-    if let Ok(opened) = how.open(rt, "/dev/fd/3") {
-        let mut file = opened;
+    if let Ok(mut file) = how.open(rt, "/dev/fd/3") {
         let _ = file.write_all(&[b'0'.wrapping_add(status)]);
     }
 }
 
 fn main(rt: HostRuntime) -> ExitCode {
-    let task = read_task(&rt);
-    let status = run(&rt, task);
+    let Ok(words) = words(&rt) else {
+        complain(&rt, b"out of memory", "");
+        return ExitCode::from(FAILED);
+    };
+    let status = run(&rt, &words);
     if status == UNHEARD {
         return ExitCode::from(status);
     }
-    if !task.with_status {
+    let with_status = |word: &Vec<u8>| word.as_slice() == b"--status".as_slice();
+    if !words.iter().any(with_status) {
         return ExitCode::SUCCESS;
     }
     tell(&rt, status);

@@ -1,6 +1,6 @@
 -- Sends with fields. Those that a sequence makes of its own records (ProdInfoReq, ParamValue, ModeSet, RadarCal) stand with it. Definitions only.
 -- Assumes nothing.
-use Rattle.std.specs.Prelude.{ℕ, ◌%◌, Bool, true, [], ◌∷◌, replicate}
+use Rattle.std.specs.Prelude.{ℕ, ◌%◌, Bool, [], ◌∷◌, replicate}
 use Rattle.protocol.specs.declared.BusAddr.{BusAddr}
 use Rattle.protocol.specs.declared.Command.{Command}
 use Rattle.protocol.specs.declared.Action.{Action}
@@ -18,7 +18,6 @@ net_config_req password = send_to BusAddr.Pi (Command.NetConfigReq (record { que
 -- the factory calibration is asked for with ten bytes
 abbrev pub cal_data_req : Action
 cal_data_req = record {
-  some = true;
   command = Command.CalDataReq (record { sub_cmd = 0x03 });
   dest = BusAddr.Avr;
   payload = 0x09 ∷ 0x00 ∷ 0x00 ∷ 0x03 ∷ 0x00 ∷ 0x00 ∷ 0x00 ∷ 0x00 ∷ 0x00 ∷ 0xA5 ∷ [];
@@ -28,7 +27,6 @@ cal_data_req = record {
 -- the wall seconds as 32 bits hold them
 abbrev pub time_sync : ℕ → Action
 time_sync wall = record {
-  some = true;
   command = Command.TimeSync (record { epoch = wall % 4_294_967_296; session = 0 });
   dest = BusAddr.Avr;
   payload = replicate 10 0;

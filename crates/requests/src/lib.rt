@@ -12,25 +12,20 @@ use protocol::{
 pub fn status_poll(pi_mode: bool, dest: BusAddr) -> Action
     ensures { result ≡ status_poll pi_mode dest }
 {
-    Action::send(Command::StatusPoll(StatusPoll { pi_mode: pi_mode }), dest)
+    Action::send(Command::StatusPoll(StatusPoll { pi_mode }), dest)
 }
 
 pub fn param_read_req(param_id: u8, dest: BusAddr) -> Action
     ensures { result ≡ param_read_req param_id dest }
 {
-    Action::send(
-        Command::ParamReadReq(ParamReadReq { param_id: param_id }),
-        dest,
-    )
+    Action::send(Command::ParamReadReq(ParamReadReq { param_id }), dest)
 }
 
 pub fn net_config_req(query_password: bool) -> Action
     ensures { result ≡ net_config_req query_password }
 {
     Action::send(
-        Command::NetConfigReq(NetConfigReq {
-            query_password: query_password,
-        }),
+        Command::NetConfigReq(NetConfigReq { query_password }),
         BusAddr::Pi,
     )
 }
@@ -40,7 +35,6 @@ pub fn cal_data_req() -> Action
     ensures { result ≡ cal_data_req }
 {
     Action {
-        some: true,
         command: Command::CalDataReq(CalDataReq { sub_cmd: 0x03 }),
         dest: BusAddr::Avr,
         payload: [0x09, 0x00, 0x00, 0x03, 0x00, 0x00, 0x00, 0x00, 0x00, 0xA5],
@@ -53,7 +47,6 @@ pub fn time_sync(wall: u64) -> Action
     ensures { result ≡ time_sync wall }
 {
     Action {
-        some: true,
         command: Command::TimeSync(TimeSync {
             epoch: (wall % 4_294_967_296) as u32,
             session: 0,
@@ -68,8 +61,5 @@ pub fn time_sync(wall: u64) -> Action
 pub fn avr_config_cmd(arm: bool) -> Action
     ensures { result ≡ avr_config_cmd arm }
 {
-    Action::send(
-        Command::AvrConfigCmd(AvrConfigCmd { arm: arm }),
-        BusAddr::Avr,
-    )
+    Action::send(Command::AvrConfigCmd(AvrConfigCmd { arm }), BusAddr::Avr)
 }

@@ -10,14 +10,13 @@ use lib.ListN.{length}
 use borrow.Author.Tests.{ltb-false}
 use Rattle.protocol.specs.Refusals.{Applies, outcome, lowest}
 use Rattle.protocol.specs.declared.Refusal.{Refusal}
-use Rattle.protocol.specs.declared.Outcome.{Outcome}
-use Rattle.protocol.specs.declared.Outcome.TheVariants.{Accepted, Refused}
+use Rattle.std.specs.Prelude.{Result, Ok, Err}
 use Rattle.protocol.proofs.Numbers.{Rises, end, then, Listed, lowest_least}
 use Rattle.sequence.specs.Accepted.{applies, none, bytes_refusals, check_refusals, feed_refusals}
 
-abbrev pub accepted : Outcome → Bool
-accepted Accepted = true
-accepted (Refused r) = false
+abbrev pub accepted : Result (Unit {0}) Refusal → Bool
+accepted (Ok u) = true
+accepted (Err r) = false
 
 -- by the tests of 3 and 11, and of 1 and 2 before them
 check_numbers : (b c : Bool) → accepted (outcome (lowest (applies 3 b ∷ applies 11 c ∷ []))) ≡ none (applies 3 b ∷ applies 11 c ∷ [])
@@ -42,20 +41,20 @@ bytes_accepted x y = feed_numbers (ltb 256 (length x)) (ltb 256 (length y)) [] r
 
 -- ---- the bytes are judged first
 
-pub bytes_first : (x y : List ℕ) (l : List Applies) (r : Refusal) → outcome (lowest (bytes_refusals x y)) ≡ Refused r
-    → outcome (lowest (bytes_refusals x y ++ l)) ≡ Refused r
+pub bytes_first : (x y : List ℕ) (l : List Applies) (r : Refusal) → outcome (lowest (bytes_refusals x y)) ≡ Err r
+    → outcome (lowest (bytes_refusals x y ++ l)) ≡ Err r
 bytes_first x y l r h = go (ltb 256 (length x)) (ltb 256 (length y)) h
   where
-    go : (a b : Bool) → outcome (lowest (applies 1 a ∷ applies 2 b ∷ [])) ≡ Refused r → outcome (lowest (applies 1 a ∷ applies 2 b ∷ l)) ≡ Refused r
+    go : (a b : Bool) → outcome (lowest (applies 1 a ∷ applies 2 b ∷ [])) ≡ Err r → outcome (lowest (applies 1 a ∷ applies 2 b ∷ l)) ≡ Err r
     go true b k = k
     go false true k = k
     go false false k = absurd (true≢false (ap accepted k))
 
-pub bytes_pass : (x y : List ℕ) (l : List Applies) → outcome (lowest (bytes_refusals x y)) ≡ Accepted
+pub bytes_pass : (x y : List ℕ) (l : List Applies) → outcome (lowest (bytes_refusals x y)) ≡ Ok tt
     → outcome (lowest (bytes_refusals x y ++ l)) ≡ outcome (lowest l)
 bytes_pass x y l h = go (ltb 256 (length x)) (ltb 256 (length y)) h
   where
-    go : (a b : Bool) → outcome (lowest (applies 1 a ∷ applies 2 b ∷ [])) ≡ Accepted → outcome (lowest (applies 1 a ∷ applies 2 b ∷ l)) ≡ outcome (lowest l)
+    go : (a b : Bool) → outcome (lowest (applies 1 a ∷ applies 2 b ∷ [])) ≡ Ok tt → outcome (lowest (applies 1 a ∷ applies 2 b ∷ l)) ≡ outcome (lowest l)
     go true b k = absurd (true≢false (sym (ap accepted k)))
     go false true k = absurd (true≢false (sym (ap accepted k)))
     go false false k = refl

@@ -7,8 +7,8 @@ use Prim.Native.Nat.{ℕ, ◌≤◌}
 use native.Mathlib.Nat.{le_refl}
 use native.Mathlib.Omega.{arith}
 use lib.ListN.{length}
-use Rattle.protocol.specs.declared.Outcome.{Outcome}
-use Rattle.protocol.specs.declared.Outcome.TheVariants.{Accepted, Refused}
+use Rattle.std.specs.Prelude.{Result, Ok, Err}
+use Rattle.protocol.specs.declared.Refusal.{Refusal}
 use Rattle.matching.proofs.Machine.{Rising, end, then}
 use Rattle.sequence.specs.Accepted.{none, bytes_refusals, feed_refusals, check_refusals}
 use Rattle.sequence.specs.Events.{Envelope, Event, fed, checked, reading}
@@ -51,9 +51,9 @@ module _ {A Q : Type 0} (env : A → Envelope) where
   rises_untimed (Untimed.ask q ∷ cs) = rises_untimed cs
 
 -- What holds of an accepted call with its event, and of a refused one with none, holds of the call: b is whether no number applies.
-pub judge : {F E : Type 0} (P : F → List E → Type 0) (f : F) (g : Outcome → F) (e : E) (o : Outcome) (b : Bool) → accepted o ≡ b
-    → (b ≡ true → P f (e ∷ [])) → ((p : Outcome) → P (g p) []) → P (judged o f g) (cond b (e ∷ []) [])
-judge P f g e Accepted true h take leave = take refl
-judge P f g e Accepted false h take leave = absurd (true≢false h)
-judge P f g e (Refused r) true h take leave = absurd (true≢false (sym h))
-judge P f g e (Refused r) false h take leave = leave (Refused r)
+pub judge : {F E : Type 0} (P : F → List E → Type 0) (f : F) (g : Refusal → F) (e : E) (o : Result (Unit {0}) Refusal) (b : Bool) → accepted o ≡ b
+    → (b ≡ true → P f (e ∷ [])) → ((p : Refusal) → P (g p) []) → P (judged o f g) (cond b (e ∷ []) [])
+judge P f g e (Ok u) true h take leave = take refl
+judge P f g e (Ok u) false h take leave = absurd (true≢false h)
+judge P f g e (Err r) true h take leave = absurd (true≢false (sym h))
+judge P f g e (Err r) false h take leave = leave r

@@ -7,14 +7,15 @@ use mathlib.Core.List.{List, []}
 use Prim.Native.Nat.{ℕ}
 use native.Mathlib.Omega.{arith}
 use lib.ListN.{length, get_or}
-use Rattle.protocol.specs.declared.Outcome.{Outcome}
+use Rattle.std.specs.Prelude.{None}
+use Rattle.protocol.specs.declared.Refusal.{Refusal}
 use Rattle.matching.specs.Promise.{Each, Ends}
 use Rattle.matching.proofs.Machine.{ticked_from}
 use Rattle.matching.proofs.Called.{Called}
 use Rattle.matching.proofs.Promised as promised
 use Rattle.sequence.specs.Accepted.{none, bytes_refusals, bytes_outcome}
 use Rattle.sequence.specs.Events.{Envelope, Event, fed, checked, reading, forever}
-use Rattle.sequence.specs.Rows.{Row, past, State, no_deadline, heard, judged}
+use Rattle.sequence.specs.Rows.{Row, past, State, heard, judged}
 use Rattle.sequence.specs.Calls.{Untimed, untimed}
 use Rattle.sequence.proofs.Acceptance.{bytes_accepted}
 use Rattle.sequence.proofs.Events.{rises_untimed, judge}
@@ -35,7 +36,7 @@ module _ {Y K : Type 0} (row : K → Row Envelope Y) (next : K → K) (done : K)
   standing es = rows.standing row next done steps first put keep es tt
 
   -- S: sequencers, F: what a feed answers, Q: the calls that are no feed
-  module _ {S F Q : Type 0} (view : S → State K Y) (unview : State K Y → S) (seq : F → S) (accepted : S → E → F) (refused : S → Outcome → F)
+  module _ {S F Q : Type 0} (view : S → State K Y) (unview : State K Y → S) (seq : F → S) (accepted : S → E → F) (refused : S → Refusal → F)
       (after : S → Untimed Envelope Q → S) where
     abbrev pub state_of : List E → ℕ → Unit {0} → S
     state_of es t x = unview (standing es)
@@ -46,10 +47,10 @@ module _ {Y K : Type 0} (row : K → Row Envelope Y) (next : K → K) (done : K)
       pub ended : row done ≡ past
       pub waitless : (k : K) → (row k).wait ≡ forever
       -- a sequencer is what the rows have of it
-      pub seen : (k : K) (y : Y) → view (unview (record { step = k; replies = y; deadline = no_deadline })) ≡ record { step = k; replies = y; deadline = no_deadline }
+      pub seen : (k : K) (y : Y) → view (unview (record { step = k; replies = y; deadline = None })) ≡ record { step = k; replies = y; deadline = None }
       -- an accepted feed goes by the rows, a refused one and any other call leave it
       pub moves : (s : State K Y) (e : E) → seq (accepted (unview s) e) ≡ unview (heard row next (view (unview s)) e).state
-      pub stays : (s : S) (o : Outcome) → seq (refused s o) ≡ s
+      pub stays : (s : S) (o : Refusal) → seq (refused s o) ≡ s
       pub feeds : (s : S) (e : Envelope) → after s (Untimed.feed e) ≡ seq (judged (bytes_outcome e.text e.payload) (accepted s (fed e 0)) (refused s))
       pub asks : (s : S) (q : Q) → after s (Untimed.ask q) ≡ s
 

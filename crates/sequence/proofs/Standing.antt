@@ -18,15 +18,15 @@ use Rattle.matching.proofs.Machine as machine
 use Rattle.matching.proofs.Embeds.{length-snoc, reading-snoc}
 use Rattle.matching.proofs.Leftmost.{ticks_inside}
 use Rattle.matching.proofs.Entries.{antitone_rows, each_at}
-use Rattle.sequence.specs.declared.OptionInstant.{OptionInstant}
+use Rattle.std.specs.Prelude.{Option, Some, None}
 use Rattle.sequence.specs.Events.{Event, fed, checked, reading, Wait, forever, nanos, over}
-use Rattle.sequence.specs.Rows.{Row, test, past, State, no_deadline, deadline_at, due, passes, deadline_after, idle, ticked, heard}
+use Rattle.sequence.specs.Rows.{Row, test, past, State, deadline_at, due, passes, deadline_after, idle, ticked, heard}
 
 -- ---- a wait and its deadline
 
 -- the deadline of a row with this wait, the row before being ticked at t
-abbrev pub deadline_of : Wait → ℕ → OptionInstant
-deadline_of forever t = no_deadline
+abbrev pub deadline_of : Wait → ℕ → Option ℕ
+deadline_of forever t = None
 deadline_of (nanos n) t = deadline_at t n
 
 -- at a deadline of its own a row is due when its wait is over
@@ -35,7 +35,7 @@ due_over forever t u h = refl
 due_over (nanos n) t u h = go (leb (t + n) 18_446_744_073_709_551_615) refl
   where
     go : (b : Bool) → leb (t + n) 18_446_744_073_709_551_615 ≡ b
-        → due (nanos n) (cond b (record { some = true; value = t + n }) no_deadline) u ≡ leb (t + n) u
+        → due (nanos n) (cond b (Some (t + n)) None) u ≡ leb (t + n) u
     go true p = refl
     go false p = sym (lt-leb (t + n) u (omega (arith, leb-false (t + n) 18_446_744_073_709_551_615 p)))
 

@@ -1,7 +1,7 @@
 -- Which feeds and checks are refused (01: "When a call is declined"), as lists of numbers with their tests. Definitions only.
 -- Assumes nothing.
-use Rattle.std.specs.Prelude.{ℕ, Bool, true, not, ◌&&◌, List, [], ◌∷◌, ◌++◌, ltb, length}
-use Rattle.protocol.specs.declared.Outcome.{Outcome}
+use Rattle.std.specs.Prelude.{ℕ, Bool, true, not, ◌&&◌, List, [], ◌∷◌, ◌++◌, ltb, length, Result}
+use Rattle.protocol.specs.declared.Refusal.{Refusal}
 use Rattle.protocol.specs.Refusals.{Applies, lowest, outcome}
 
 abbrev pub applies : ℕ → Bool → Applies
@@ -24,13 +24,13 @@ abbrev pub result_refusals : Bool → List Applies
 result_refusals done = applies 12 (not done) ∷ []
 
 -- the outcome of a feed, without and with a clock, and of a check: the lowest number that applies, or accepted
-abbrev pub bytes_outcome : List ℕ → List ℕ → Outcome
+abbrev pub bytes_outcome : List ℕ → List ℕ → Result (Unit {0}) Refusal
 bytes_outcome text payload = outcome (lowest (bytes_refusals text payload))
 
-abbrev pub feed_outcome : List ℕ → List ℕ → ℕ → ℕ → Outcome
+abbrev pub feed_outcome : List ℕ → List ℕ → ℕ → ℕ → Result (Unit {0}) Refusal
 feed_outcome text payload last reading = outcome (lowest (feed_refusals text payload last reading))
 
-abbrev pub check_outcome : ℕ → ℕ → Outcome
+abbrev pub check_outcome : ℕ → ℕ → Result (Unit {0}) Refusal
 check_outcome last reading = outcome (lowest (check_refusals last reading))
 
 -- accepted: no number applies

@@ -1,12 +1,12 @@
-// What the sequences have in common: which calls are accepted, and deadlines.
+// What the sequences have in common: what a call answers, which calls are accepted, and deadlines.
 #![tactic(auto)]
 
-ghost use Rattle.std.specs.Prelude.{◌≡◌};
+ghost use Rattle.std.specs.Prelude.{◌≡◌, Ok};
 ghost use Rattle.protocol.specs.Refusals.{outcome, lowest};
 ghost use Rattle.sequence.specs.Accepted.{bytes_refusals, feed_refusals, check_refusals};
-ghost use Rattle.sequence.specs.Rows.{no_deadline, deadline_at, or_after, reached};
+ghost use Rattle.sequence.specs.Rows.{deadline_at, idle, or_after, reached, refused};
 
-use protocol::{Outcome, Refusal};
+use protocol::{Action, Refusal};
 
 // The largest text or payload, in bytes.
 const MAX_LEN: usize = 256;
@@ -14,92 +14,111 @@ const MAX_LEN: usize = 256;
 // The largest clock reading, in nanoseconds: any wait added to it fits in 64 bits.
 const MAX_READING: u64 = 18_446_744_071_709_551_615;
 
-const MAX_INSTANT: u64 = 18_446_744_073_709_551_615;
-
-#[repr(C)]
+// What an accepted feed or check does to a state: what is sent, if anything, and the state then.
 #[derive(Clone, Copy)]
-pub struct OptionInstant {
-    pub some: bool,
-    pub value: u64,
+pub struct Moved<S> {
+    pub action: Option<Action>,
+    pub state: S,
 }
 
-impl OptionInstant {
-    pub fn none() -> OptionInstant
-        ensures { result ≡ no_deadline }
+impl<S> Moved<S> {
+    // Nothing is sent, and nothing changes.
+    pub fn idle(state: S) -> Moved<S>
+        ensures { result ≡ idle state }
     {
-        OptionInstant {
-            some: false,
-            value: 0,
+        Moved {
+            action: None,
+            state,
         }
-    }
-
-    // `wait` nanoseconds after `now`; none where that doesn't fit.
-    pub fn after(now: u64, wait: u64) -> OptionInstant
-        ensures { result ≡ deadline_at now wait }
-    {
-        if MAX_INSTANT - wait < now {
-            return OptionInstant::none();
-        }
-        OptionInstant {
-            some: true,
-            value: now + wait,
-        }
-    }
-
-    // Itself, or `wait` nanoseconds after `now` where there is none.
-    pub fn or_after(self, now: u64, wait: u64) -> OptionInstant
-        ensures { result ≡ or_after self now wait }
-    {
-        if self.some {
-            return self;
-        }
-        OptionInstant::after(now, wait)
-    }
-
-    // Whether the clock is at it or past it.
-    pub fn reached(self, now: u64) -> bool
-        ensures { result ≡ reached self now }
-    {
-        if !self.some {
-            return false;
-        }
-        self.value <= now
     }
 }
 
-// Whether a feed of a sequence without a clock is accepted.
-pub fn accept_bytes(text: &[u8], payload: &[u8]) -> Outcome
+// What a call answers: what is sent, if anything, or why it is refused; and the sequencer.
+#[derive(Clone, Copy)]
+pub struct Answer<S> {
+    pub outcome: Result<Option<Action>, Refusal>,
+    pub seq: S,
+}
+
+impl<S> Answer<S> {
+    pub fn accepted(action: Option<Action>, seq: S) -> Answer<S>
+        ensures { result ≡ record { outcome = Ok action; seq = seq } }
+    {
+        Answer {
+            outcome: Ok(action),
+            seq,
+        }
+    }
+
+    // Nothing is sent, and the sequencer is as it was.
+    pub fn refused(refusal: Refusal, seq: S) -> Answer<S>
+        ensures { result ≡ refused seq refusal }
+    {
+        Answer {
+            outcome: Err(refusal),
+            seq,
+        }
+    }
+}
+
+// ---- deadlines
+
+// `wait` nanoseconds after `now`; none where that doesn't fit.
+pub fn after(now: u64, wait: u64) -> Option<u64>
+    ensures { result ≡ deadline_at now wait }
+{
+    now.checked_add(wait)
+}
+
+// The deadline itself, or `wait` nanoseconds after `now` where there is none.
+pub fn or_after(deadline: Option<u64>, now: u64, wait: u64) -> Option<u64>
+    ensures { result ≡ or_after deadline now wait }
+{
+    deadline.or(after(now, wait))
+}
+
+// Whether the clock is at it or past it.
+pub fn reached(deadline: Option<u64>, now: u64) -> bool
+    ensures { result ≡ reached deadline now }
+{
+    match deadline {
+        Some(at) => at <= now,
+        None => false,
+    }
+}
+
+// ---- which calls are accepted
+
+// A feed of a sequence without a clock.
+pub fn accept_bytes(text: &[u8], payload: &[u8]) -> Result<(), Refusal>
     ensures { result ≡ outcome (lowest (bytes_refusals text.now payload.now)) }
 {
     if MAX_LEN < text.len() {
-        return Outcome::Refused(Refusal::TextTooLong);
+        return Err(Refusal::TextTooLong);
     }
     if MAX_LEN < payload.len() {
-        return Outcome::Refused(Refusal::PayloadTooLong);
+        return Err(Refusal::PayloadTooLong);
     }
-    Outcome::Accepted
+    Ok(())
 }
 
-// Whether a feed is accepted, `last` being the last accepted reading.
-pub fn accept_feed(text: &[u8], payload: &[u8], last: u64, now: u64) -> Outcome
+// A feed, `last` being the last accepted reading.
+pub fn accept_feed(text: &[u8], payload: &[u8], last: u64, now: u64) -> Result<(), Refusal>
     ensures { result ≡ outcome (lowest (feed_refusals text.now payload.now last now)) }
 {
-    let bytes = accept_bytes(text, payload);
-    if let Outcome::Refused(_) = bytes {
-        return bytes;
-    }
+    accept_bytes(text, payload)?;
     accept_check(last, now)
 }
 
-// Whether a check is accepted.
-pub fn accept_check(last: u64, now: u64) -> Outcome
+// A check.
+pub fn accept_check(last: u64, now: u64) -> Result<(), Refusal>
     ensures { result ≡ outcome (lowest (check_refusals last now)) }
 {
     if MAX_READING < now {
-        return Outcome::Refused(Refusal::ReadingTooLarge);
+        return Err(Refusal::ReadingTooLarge);
     }
     if now < last {
-        return Outcome::Refused(Refusal::ReadingBelowLast);
+        return Err(Refusal::ReadingBelowLast);
     }
-    Outcome::Accepted
+    Ok(())
 }

@@ -1,9 +1,8 @@
 -- Settings (01: "Settings run"): what is absent in them, the mode alone, those of a Mevo, and what a run stores of them. Definitions only.
 -- Assumes nothing.
-use Rattle.std.specs.Prelude.{ℕ, ◌-◌, min, true, false, cond, List, [], ◌∷◌, ◌++◌, ℤ, take, replicate}
+use Rattle.std.specs.Prelude.{ℕ, ◌-◌, min, Some, None, List, [], ◌∷◌, ◌++◌, ℤ, take, replicate}
 use Rattle.protocol.specs.declared.ParamData.{ParamData}
 use Rattle.protocol.specs.declared.ParamValue.{ParamValue}
-use Rattle.settings.specs.declared.OptionRadarCal.{OptionRadarCal}
 use Rattle.settings.specs.declared.AvrSettings.{AvrSettings}
 use Rattle.settings.specs.declared.MevoSettings.{MevoSettings}
 
@@ -11,12 +10,9 @@ use Rattle.settings.specs.declared.MevoSettings.{MevoSettings}
 abbrev pub no_param : ParamValue
 no_param = record { param_id = 0; value = ParamData.Int24 (ℤ.pos 0) }
 
-abbrev pub no_cal : OptionRadarCal
-no_cal = record { some = false; value = record { range_mm = 0; height_mm = 0 } }
-
 -- no parameters, no calibration
 abbrev pub mode_only : ℕ → AvrSettings
-mode_only mode = record { mode = mode; params = replicate 32 no_param; len = 0; radar_cal = no_cal }
+mode_only mode = record { mode = mode; params = replicate 32 no_param; len = 0; radar_cal = None }
 
 -- ids 0x06 (Int24), 0x0F and 0x26 (Float40), in that order
 abbrev pub mevo_params : MevoSettings → List ParamValue
@@ -31,7 +27,7 @@ from_mevo s = record {
   mode = s.mode;
   params = mevo_params s ++ replicate 29 no_param;
   len = 3;
-  radar_cal = record { some = true; value = s.radar_cal };
+  radar_cal = Some s.radar_cal;
 }
 
 -- how many parameters count: `len`, and no more than there are places
@@ -42,9 +38,6 @@ count len = min 32 len
 abbrev pub kept_params : List ParamValue → ℕ → List ParamValue
 kept_params params len = take (count len) params ++ replicate (32 - count len) no_param
 
-abbrev pub kept_cal : OptionRadarCal → OptionRadarCal
-kept_cal cal = cond cal.some cal no_cal
-
--- what a run stores: places past the count and the fields of an absent calibration are 0
+-- what a run stores: places past the count are empty
 abbrev pub kept : AvrSettings → AvrSettings
-kept s = record { mode = s.mode; params = kept_params s.params s.len; len = s.len; radar_cal = kept_cal s.radar_cal }
+kept s = record { mode = s.mode; params = kept_params s.params s.len; len = s.len; radar_cal = s.radar_cal }

@@ -2,19 +2,12 @@
 #![tactic(auto)]
 
 ghost use Rattle.std.specs.Prelude.{◌≡◌};
-ghost use Rattle.settings.specs.Settings.{no_param, no_cal, mode_only, mevo_params, from_mevo, kept_params, kept_cal, kept};
+ghost use Rattle.settings.specs.Settings.{mode_only, mevo_params, from_mevo, kept_params, kept};
 
 use protocol::{ParamData, ParamValue, RadarCal};
 
 // The most parameters of a settings list.
 pub const MAX_PARAMS: usize = 32;
-
-#[repr(C)]
-#[derive(Clone, Copy)]
-pub struct OptionRadarCal {
-    pub some: bool,
-    pub value: RadarCal,
-}
 
 #[derive(Clone, Copy)]
 pub struct AvrSettings {
@@ -23,7 +16,7 @@ pub struct AvrSettings {
     pub params: [ParamValue; 32],
     // how many of them count
     pub len: usize,
-    pub radar_cal: OptionRadarCal,
+    pub radar_cal: Option<RadarCal>,
 }
 
 // Everything that is set on a Mevo+ or Mevo Gen2.
@@ -45,53 +38,20 @@ const MEVO_TRACK_FRACTION_ID: u8 = 0x0F;
 
 const MEVO_TEE_HEIGHT_ID: u8 = 0x26;
 
-fn no_param() -> ParamValue
-    ensures { result ≡ no_param }
-{
-    ParamValue {
-        param_id: 0,
-        value: ParamData::Int24(0),
-    }
-}
-
-fn no_cal() -> OptionRadarCal
-    ensures { result ≡ no_cal }
-{
-    OptionRadarCal {
-        some: false,
-        value: RadarCal {
-            range_mm: 0,
-            height_mm: 0,
-        },
-    }
-}
+// What stands in a place that holds no parameter.
+const NO_PARAM: ParamValue = ParamValue {
+    param_id: 0,
+    value: ParamData::Int24(0),
+};
 
 // The first `len` of the parameters, and nothing after them.
 fn kept_params(params: [ParamValue; 32], len: usize) -> [ParamValue; 32]
     ensures { result ≡ kept_params params len }
 {
-    let none = no_param();
-    let mut kept = [none; 32];
-    let mut n = len;
-    if MAX_PARAMS < n {
-        n = MAX_PARAMS;
-    }
-    let mut i = 0;
-    while i < n {
-        let param = params[i];
-        kept[i] = param;
-        i += 1;
-    }
+    let mut kept = [NO_PARAM; 32];
+    let n = len.min(MAX_PARAMS);
+    kept[..n].copy_from_slice(&params[..n]);
     kept
-}
-
-fn kept_cal(cal: OptionRadarCal) -> OptionRadarCal
-    ensures { result ≡ kept_cal cal }
-{
-    if cal.some {
-        return cal;
-    }
-    no_cal()
 }
 
 impl AvrSettings {
@@ -99,50 +59,39 @@ impl AvrSettings {
     pub fn mode_only(mode: u8) -> AvrSettings
         ensures { result ≡ mode_only mode }
     {
-        let none = no_param();
-        let cal = no_cal();
         AvrSettings {
             mode: mode,
-            params: [none; 32],
+            params: [NO_PARAM; 32],
             len: 0,
-            radar_cal: cal,
+            radar_cal: None,
         }
     }
 
-    pub fn from(settings: MevoSettings) -> AvrSettings
-        ensures { result ≡ from_mevo settings }
+    // As a run stores them: places past the count are empty, whatever the caller left there.
+    pub fn kept(self) -> AvrSettings
+        ensures { result ≡ kept self }
     {
-        let none = no_param();
-        let mut params = [none; 32];
+        AvrSettings {
+            params: kept_params(self.params, self.len),
+            ..self
+        }
+    }
+}
+
+impl From<MevoSettings> for AvrSettings {
+    ghost from_gives = { λ settings r. r ≡ from_mevo settings };
+
+    fn from(settings: MevoSettings) -> AvrSettings {
+        let mut params = [NO_PARAM; 32];
         let set = settings.params();
         params[0] = set[0];
         params[1] = set[1];
         params[2] = set[2];
-        let cal = settings.radar_cal;
         AvrSettings {
             mode: settings.mode,
-            params: params,
+            params,
             len: 3,
-            radar_cal: OptionRadarCal {
-                some: true,
-                value: cal,
-            },
-        }
-    }
-
-    // As a run stores them: places past the count and the fields of an absent calibration are 0, whatever the caller left there.
-    pub fn kept(self) -> AvrSettings
-        ensures { result ≡ kept self }
-    {
-        let params = self.params;
-        let first = kept_params(params, self.len);
-        let radar_cal = self.radar_cal;
-        let cal = kept_cal(radar_cal);
-        AvrSettings {
-            mode: self.mode,
-            params: first,
-            len: self.len,
-            radar_cal: cal,
+            radar_cal: Some(settings.radar_cal),
         }
     }
 }

@@ -1,181 +1,136 @@
 // An answer, laid out below its line.
-use crate::tables::REFUSALS;
+use crate::tables::{Sequence, Step};
 use crate::{Shown, fields, tables};
-use folding::split::begins;
+use folding::split::Texts;
 use folding::{fold, split};
-use words::{behind, find, part};
-use writing::write;
-use writing::write::OUT;
+use std::io;
+use std::io::Write;
 
 // The columns before an answer, and before what is folded of it.
 const INDENT: usize = 4;
 
 const HANG: usize = 8;
 
-fn line(out: &mut [u8; OUT], at: usize, s: &[u8]) -> usize {
-    let end = fold::blanks(out, at, INDENT);
-    fold::rest(out, end, s, INDENT, HANG)
+fn line<W: Write>(out: &mut W, s: &[u8]) -> io::Result<()> {
+    fold::blanks(out, INDENT)?;
+    fold::rest(out, s, INDENT, HANG)
 }
 
 // ---- whether it was accepted
 
 // `refused N`, and why.
-fn refused(out: &mut [u8; OUT], at: usize, refusals: &[u8], s: &[u8]) -> usize {
-    let number = part(s, behind(s, 0, b' '), s.len());
-    let mut end = fold::blanks(out, at, INDENT);
-    end = write::text(out, end, s);
-    end = write::text(out, end, b": ");
-    end = write::text(out, end, tables::reason(refusals, number));
-    write::byte(out, end, b'\n')
+fn refused<W: Write>(out: &mut W, s: &[u8], number: &[u8]) -> io::Result<()> {
+    fold::blanks(out, INDENT)?;
+    out.write_all(s)?;
+    writeln!(out, ": {}", tables::reason(number))
 }
 
-// The entry that an accepted feed or check has ticked. An arm has none: its step changes, or what came was not awaited.
-fn ticked(shown: Shown, moved: bool, out: &mut [u8; OUT], at: usize, plain: &[u8]) -> usize {
-    if shown.sequence == tables::ARM {
-        if moved {
-            return write::text(out, at, b", awaited");
+impl Shown {
+    // What an accepted feed or check has come to: the entry that it has ticked. An arm has none: its step changes, or what came was
+    // not awaited.
+    fn ticked<'a>(&self, plain: &'a [u8]) -> &'a [u8] {
+        if self.sequence == Some(Sequence::Arm) {
+            return if self.moved {
+                b"awaited"
+            } else {
+                b"not awaited"
+            };
         }
-        return write::text(out, at, b", not awaited");
-    }
-    if begins(plain, b"accepted; ticked ") {
-        let end = write::text(out, at, b", ");
-        let from = split::next_part(split::part_end(plain, 0));
-        return write::text(out, end, part(plain, from, split::part_end(plain, from)));
-    }
-    write::text(out, at, b", ticked nothing")
-}
-
-fn accepted(shown: Shown, moved: bool, out: &mut [u8; OUT], at: usize, plain: &[u8]) -> usize {
-    let mut end = fold::blanks(out, at, INDENT);
-    end = write::text(out, end, b"accepted");
-    if shown.fed {
-        end = ticked(shown, moved, out, end, plain);
-    }
-    write::byte(out, end, b'\n')
-}
-
-// ---- the other parts
-
-// The step that is awaited.
-fn step(moved: bool, out: &mut [u8; OUT], at: usize, s: &[u8]) -> usize {
-    let mut end = fold::blanks(out, at, INDENT);
-    if moved {
-        end = write::text(out, end, b"now ");
-    } else {
-        end = write::text(out, end, b"still ");
-    }
-    end = write::text(out, end, s);
-    write::byte(out, end, b'\n')
-}
-
-// A state, behind its word. A disarm's has no fields, and isn't shown.
-fn state(out: &mut [u8; OUT], at: usize, s: &[u8]) -> usize {
-    if s.len() == 0 {
-        return at;
-    }
-    let end = line(out, at, b"state");
-    fields::words(out, end, s)
-}
-
-// A part that says nothing of whether the call was accepted.
-fn other(moved: bool, out: &mut [u8; OUT], at: usize, s: &[u8]) -> usize {
-    if begins(s, b"ticked ") {
-        return at;
-    }
-    if split::is_step(s) {
-        return step(moved, out, at, s);
-    }
-    if begins(s, b"state") {
-        return state(out, at, part(s, behind(s, 0, b' '), s.len()));
-    }
-    if find(s, 0, b'=') < find(s, 0, b' ') {
-        return fields::words(out, at, s);
-    }
-    line(out, at, s)
-}
-
-// ---- an answer
-
-// The reading of a feed or check where it is looked at.
-fn reading(shown: Shown, out: &mut [u8; OUT], at: usize) -> usize {
-    if !shown.fed {
-        return at;
-    }
-    if tables::AVR < shown.sequence {
-        return at;
-    }
-    let mut digits = [0u8; 20];
-    let count = io::decimal(shown.now, &mut digits);
-    let mut end = fold::blanks(out, at, INDENT);
-    end = write::text(out, end, b"reading ");
-    fields::reading(out, end, &digits[..count])
-}
-
-// The parts of an answer.
-fn parts(shown: Shown, moved: bool, out: &mut [u8; OUT], at: usize, plain: &[u8]) -> usize {
-    let mut end = reading(shown, out, at);
-    let mut from = 0;
-    let mut turns = plain.len();
-    while 0 < turns && from < plain.len() {
-        let to = split::part_end(plain, from);
-        let s = part(plain, from, to);
-        if begins(s, b"accepted") {
-            end = accepted(shown, moved, out, end, plain);
-        } else if begins(s, b"refused ") {
-            end = refused(out, end, &REFUSALS, s);
-        } else {
-            end = other(moved, out, end, s);
+        match plain.split(|b| *b == b';').nth(1) {
+            Some(part) if part.starts_with(b" ticked ") => part.trim_ascii_start(),
+            _ => b"ticked nothing",
         }
-        from = split::next_part(to);
-        turns -= 1;
     }
-    end
-}
 
-// What is shown after an answer, and where it ended.
-#[derive(Clone, Copy)]
-pub struct Laid {
-    pub shown: Shown,
-    pub at: usize,
-}
+    fn accepted<W: Write>(&self, out: &mut W, plain: &[u8]) -> io::Result<()> {
+        fold::blanks(out, INDENT)?;
+        write!(out, "accepted")?;
+        if self.reading.is_some() {
+            write!(out, ", ")?;
+            out.write_all(self.ticked(plain))?;
+        }
+        writeln!(out)
+    }
 
-// The row of the step in an answer, or that of the last one.
-fn row(shown: Shown, plain: &[u8]) -> usize {
-    let step = split::step(plain);
-    if step.from < step.to {
-        return tables::step_row(shown.sequence, part(plain, step.from, step.to));
-    }
-    shown.row
-}
+    // ---- the other parts
 
-fn has_moved(shown: Shown, row: usize, plain: &[u8]) -> bool {
-    if shown.begins {
-        return true;
+    // The step that is awaited.
+    fn awaited<W: Write>(&self, out: &mut W, s: &[u8]) -> io::Result<()> {
+        fold::blanks(out, INDENT)?;
+        write!(out, "{} ", if self.moved { "now" } else { "still" })?;
+        out.write_all(s)?;
+        writeln!(out)
     }
-    if begins(plain, b"accepted; ticked ") {
-        return true;
-    }
-    row != shown.row
-}
 
-// Lays an answer out.
-pub fn lay(shown: Shown, out: &mut [u8; OUT], at: usize, plain: &[u8]) -> Laid {
-    if begins(plain, b"bad line") {
-        return Laid {
-            shown: shown,
-            at: line(out, at, plain),
-        };
+    // A part that says nothing of whether the call was accepted. A disarm's state has no fields, and isn't shown.
+    fn other<W: Write>(&self, out: &mut W, s: &[u8]) -> io::Result<()> {
+        if split::is_step(s) {
+            return self.awaited(out, s);
+        }
+        if let Some(state) = s.strip_prefix(b"state ") {
+            line(out, b"state")?;
+            return fields::words(out, state);
+        }
+        if s.starts_with(b"ticked ") || s == b"state".as_slice() {
+            return Ok(());
+        }
+        let is_field = s.iter().find(|b| matches!(**b, b'=' | b' ')) == Some(&b'=');
+        if is_field {
+            return fields::words(out, s);
+        }
+        line(out, s)
     }
-    let row = row(shown, plain);
-    let moved = has_moved(shown, row, plain);
-    let end = parts(shown, moved, out, at, plain);
-    let mut next = shown;
-    next.row = row;
-    if begins(plain, b"refused ") {
-        next.refused = shown.refused.wrapping_add(1);
+
+    // ---- an answer
+
+    // The reading of a feed or check where it is looked at.
+    fn clock<W: Write>(&self, out: &mut W) -> io::Result<()> {
+        match (self.sequence, self.reading) {
+            (Some(Sequence::Dsp | Sequence::Avr), Some(now)) => {
+                fold::blanks(out, INDENT)?;
+                write!(out, "reading ")?;
+                fields::reading(out, now)
+            }
+            _ => Ok(()),
+        }
     }
-    Laid {
-        shown: next,
-        at: end,
+
+    // The parts of an answer.
+    fn parts<W: Write>(&self, out: &mut W, plain: &[u8]) -> io::Result<()> {
+        let mut texts = Texts::new();
+        for part in plain.split(|b| texts.outside(*b) && *b == b';') {
+            let s = part.trim_ascii_start();
+            if s.starts_with(b"accepted") {
+                self.accepted(out, plain)?;
+            } else if let Some(number) = s.strip_prefix(b"refused ") {
+                refused(out, s, number)?;
+            } else {
+                self.other(out, s)?;
+            }
+        }
+        Ok(())
+    }
+
+    // The step in an answer, or the last one.
+    fn step_of(&self, plain: &[u8]) -> Option<Step> {
+        match (self.sequence, split::step(plain)) {
+            (Some(sequence), Some(answered)) => sequence.step(answered),
+            _ => self.step,
+        }
+    }
+
+    // Lays an answer out.
+    pub fn lay<W: Write>(&mut self, out: &mut W, plain: &[u8]) -> io::Result<()> {
+        if plain.starts_with(b"bad line") {
+            return line(out, plain);
+        }
+        let step = self.step_of(plain);
+        self.moved = self.begins || plain.starts_with(b"accepted; ticked ") || step != self.step;
+        self.step = step;
+        if plain.starts_with(b"refused ") {
+            self.refused = self.refused.saturating_add(1);
+        }
+        self.clock(out)?;
+        self.parts(out, plain)
     }
 }

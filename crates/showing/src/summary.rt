@@ -1,53 +1,53 @@
 // What a list comes to.
-use crate::tables::SEQUENCES;
-use crate::{Shown, tables};
+use crate::Shown;
+use crate::tables::Step;
 use folding::fold;
-use writing::write;
-use writing::write::OUT;
+use std::io;
+use std::io::Write;
 
 // The columns before what is folded.
 const HANG: usize = 4;
 
-// How many there were, by a word that gets an s for more than one.
-fn counted(out: &mut [u8; OUT], at: usize, n: u64, word: &[u8]) -> usize {
-    let mut end = write::decimal(out, at, n);
-    end = write::byte(out, end, b' ');
-    end = write::text(out, end, word);
+// The end of a word for so many.
+fn plural(n: u64) -> &'static str {
     if n == 1 {
-        return end;
+        return "";
     }
-    write::byte(out, end, b's')
+    "s"
 }
 
-fn counts(shown: Shown, out: &mut [u8; OUT], at: usize) -> usize {
-    let mut end = write::byte(out, at, b'\n');
-    end = counted(out, end, shown.calls, b"call");
-    end = write::text(out, end, b", ");
-    end = write::decimal(out, end, shown.refused);
-    end = write::text(out, end, b" refused, ");
-    end = counted(out, end, shown.bad_lines, b"bad line");
-    write::byte(out, end, b'\n')
+// What the last sequence waits for.
+fn not_done<W: Write>(out: &mut W, name: &str, step: &str, awaited: &str) -> io::Result<()> {
+    let mut column = 0usize;
+    for text in [name, " is not done: ", step, " waits for "] {
+        out.write_all(text.as_bytes())?;
+        column = column.saturating_add(text.len());
+    }
+    fold::rest(out, awaited.as_bytes(), column, HANG)
 }
 
-// Whether the last sequence is done, and else what it waits for.
-fn last(sequences: &[u8], shown: Shown, out: &mut [u8; OUT], at: usize) -> usize {
-    let named = tables::rows_of(sequences, shown.sequence);
-    let awaited = tables::words_at(sequences, shown.row);
-    let mut end = write::text(out, at, tables::key_at(sequences, named));
-    if awaited.len() == 0 {
-        return write::text(out, end, b" is done\n");
+impl Shown {
+    fn counts<W: Write>(&self, out: &mut W) -> io::Result<()> {
+        let calls = self.calls;
+        let bad_lines = self.bad_lines;
+        write!(
+            out,
+            "\n{calls} call{}, {} refused, ",
+            plural(calls),
+            self.refused
+        )?;
+        writeln!(out, "{bad_lines} bad line{}", plural(bad_lines))
     }
-    end = write::text(out, end, b" is not done: ");
-    end = write::text(out, end, tables::key_at(sequences, shown.row));
-    end = write::text(out, end, b" waits for ");
-    fold::rest(out, end, awaited, end.wrapping_sub(at), HANG)
-}
 
-// Sums a list up.
-pub fn sum_up(shown: Shown, out: &mut [u8; OUT], at: usize) -> usize {
-    let end = counts(shown, out, at);
-    if shown.sequence == 0 {
-        return end;
+    // Sums a list up: the counts, and whether the last sequence is done.
+    pub fn sum_up<W: Write>(&self, out: &mut W) -> io::Result<()> {
+        self.counts(out)?;
+        match (self.sequence, self.step) {
+            (Some(sequence), Some(Step(step, awaited))) if !awaited.is_empty() => {
+                not_done(out, sequence.name(), step, awaited)
+            }
+            (Some(sequence), _) => writeln!(out, "{} is done", sequence.name()),
+            _ => Ok(()),
+        }
     }
-    last(&SEQUENCES, shown, out, end)
 }

@@ -1,104 +1,168 @@
-// What the answers mean, in words. Each row is `KEY:WORDS|`.
-use folding::split::begins;
-use words::{behind, byte_at, find, part, place};
+// What the answers mean, in words.
+
+#[derive(Clone, Copy, PartialEq)]
+pub enum Sequence {
+    Dsp,
+    Avr,
+    Pi,
+    Settings,
+    Disarm,
+    Arm,
+}
+
+// A step, and what it waits for: nothing when it is done.
+#[derive(Clone, Copy, PartialEq)]
+pub struct Step(pub &'static str, pub &'static str);
 
 // Why a call is refused, by the number.
-pub const REFUSALS: [u8; 302] =
-    *b"1:the text has more than 256 bytes|2:the payload has more than 256 bytes|\
-    3:the reading is above 18446744071709551615 ns|4:the settings have more than 32 parameters|\
-    11:the reading is below the last accepted one|12:the result is asked for before Done|\
-    13:the arm would count a nack while retries is 65535|";
+const REFUSALS: [(&str, &str); 7] = [
+    ("1", "the text has more than 256 bytes"),
+    ("2", "the payload has more than 256 bytes"),
+    ("3", "the reading is above 18446744071709551615 ns"),
+    ("4", "the settings have more than 32 parameters"),
+    ("11", "the reading is below the last accepted one"),
+    ("12", "the result is asked for before Done"),
+    ("13", "the arm would count a nack while retries is 65535"),
+];
 
-// The sequences, each with its steps and what they wait for, and a semicolon. The first row names it.
-pub const SEQUENCES: [u8; 2078] = *b"none:|;\
-    the DSP start-up:|WaitStatus:DspStatus from Dsp|\
-    WaitDspQuery:DspQueryResp, or ConfigNack with acked_cmd=0x48 from Dsp, or a check after 2 s|\
-    WaitDevInfo:DevInfoResp from Dsp|WaitProdInfo0:ProdInfoResp from Dsp|WaitProdInfo1:ProdInfoResp from Dsp|\
-    WaitProdInfo2:ProdInfoResp from Dsp|WaitConfig:ConfigResp from Dsp|\
-    WaitPowerMode:ConfigAck or ConfigNack with acked_cmd=0x3F from Dsp, or a check after 2 s|Done:|;\
-    the AVR start-up:|WaitStatus1:AvrStatus from Avr|WaitStatus2:AvrStatus from Avr|WaitDevInfo1:DevInfoResp from Avr|\
-    WaitDevInfo2:DevInfoResp from Avr|WaitParam0C:ParamValue from Avr|WaitParam0D:ParamValue from Avr|\
-    WaitConfig:ConfigResp from Avr|WaitFactoryCal:CalDataResp from Avr, or a check after 2 s|\
-    WaitIfCal:CalParamResp from Avr, or a check after 2 s|WaitAvrConfig:AvrConfigResp from Avr|\
-    WaitParam64:ParamValue from Avr|WaitTimeSync:TimeSync from Avr|Done:|;\
-    the Pi start-up:|WaitStatus:PiStatus from Pi|WaitDevInfo:DevInfoResp from Pi|WaitParam0A:ParamValue from Pi|\
-    WaitCamConfig1:CamConfig from Pi|WaitCamConfig2:CamConfig from Pi|WaitNetConfig:NetConfigResp from Pi|\
-    WaitNetConfigPw:NetConfigResp from Pi|WaitParams:ParamValue from Pi|Done:|;\
-    the settings run:|WaitInitGateAck:ConfigAck from Avr|WaitParamAck:ConfigAck from Avr|\
-    WaitParamCommitAck:ConfigAck from Avr|WaitModeEcho:ModeSet from Avr|WaitModeCommitAck:ConfigAck from Avr|\
-    WaitRadarCalEcho:RadarCal from Avr|WaitRadarCalCommitAck:ConfigAck from Avr|Done:|;\
-    the disarm:|WaitAck:ConfigAck from Avr|\
-    WaitModeReset:ModeAck, or a Text that contains ARMED CANCELLED, from any source|\
-    WaitStateIdle:ModeAck, or a Text that contains System State, from any source|Done:|;\
-    the arm:|WaitDspStatus:DspStatus from Dsp|WaitAvrStatus:AvrStatus from Avr|WaitArmAck:ConfigAck or ConfigNack from Avr|\
-    WaitPiAndArmed got_pi=false got_armed=false:\
-    a Text that contains ARMED and not CANCELLED, and a PiStatus, in either order, from any source|\
-    WaitPiAndArmed got_pi=true got_armed=false:a Text that contains ARMED and not CANCELLED, from any source|\
-    WaitPiAndArmed got_pi=false got_armed=true:a PiStatus from any source|Done:|;";
+const DSP: [Step; 9] = [
+    Step("WaitStatus", "DspStatus from Dsp"),
+    Step(
+        "WaitDspQuery",
+        "DspQueryResp, or ConfigNack with acked_cmd=0x48 from Dsp, or a check after 2 s",
+    ),
+    Step("WaitDevInfo", "DevInfoResp from Dsp"),
+    Step("WaitProdInfo0", "ProdInfoResp from Dsp"),
+    Step("WaitProdInfo1", "ProdInfoResp from Dsp"),
+    Step("WaitProdInfo2", "ProdInfoResp from Dsp"),
+    Step("WaitConfig", "ConfigResp from Dsp"),
+    Step(
+        "WaitPowerMode",
+        "ConfigAck or ConfigNack with acked_cmd=0x3F from Dsp, or a check after 2 s",
+    ),
+    Step("Done", ""),
+];
 
-pub const DSP: usize = 1;
+const AVR: [Step; 13] = [
+    Step("WaitStatus1", "AvrStatus from Avr"),
+    Step("WaitStatus2", "AvrStatus from Avr"),
+    Step("WaitDevInfo1", "DevInfoResp from Avr"),
+    Step("WaitDevInfo2", "DevInfoResp from Avr"),
+    Step("WaitParam0C", "ParamValue from Avr"),
+    Step("WaitParam0D", "ParamValue from Avr"),
+    Step("WaitConfig", "ConfigResp from Avr"),
+    Step(
+        "WaitFactoryCal",
+        "CalDataResp from Avr, or a check after 2 s",
+    ),
+    Step("WaitIfCal", "CalParamResp from Avr, or a check after 2 s"),
+    Step("WaitAvrConfig", "AvrConfigResp from Avr"),
+    Step("WaitParam64", "ParamValue from Avr"),
+    Step("WaitTimeSync", "TimeSync from Avr"),
+    Step("Done", ""),
+];
 
-pub const AVR: usize = 2;
+const PI: [Step; 9] = [
+    Step("WaitStatus", "PiStatus from Pi"),
+    Step("WaitDevInfo", "DevInfoResp from Pi"),
+    Step("WaitParam0A", "ParamValue from Pi"),
+    Step("WaitCamConfig1", "CamConfig from Pi"),
+    Step("WaitCamConfig2", "CamConfig from Pi"),
+    Step("WaitNetConfig", "NetConfigResp from Pi"),
+    Step("WaitNetConfigPw", "NetConfigResp from Pi"),
+    Step("WaitParams", "ParamValue from Pi"),
+    Step("Done", ""),
+];
 
-pub const PI: usize = 3;
+const SETTINGS: [Step; 8] = [
+    Step("WaitInitGateAck", "ConfigAck from Avr"),
+    Step("WaitParamAck", "ConfigAck from Avr"),
+    Step("WaitParamCommitAck", "ConfigAck from Avr"),
+    Step("WaitModeEcho", "ModeSet from Avr"),
+    Step("WaitModeCommitAck", "ConfigAck from Avr"),
+    Step("WaitRadarCalEcho", "RadarCal from Avr"),
+    Step("WaitRadarCalCommitAck", "ConfigAck from Avr"),
+    Step("Done", ""),
+];
 
-pub const SETTINGS: usize = 4;
+const DISARM: [Step; 4] = [
+    Step("WaitAck", "ConfigAck from Avr"),
+    Step(
+        "WaitModeReset",
+        "ModeAck, or a Text that contains ARMED CANCELLED, from any source",
+    ),
+    Step(
+        "WaitStateIdle",
+        "ModeAck, or a Text that contains System State, from any source",
+    ),
+    Step("Done", ""),
+];
 
-pub const DISARM: usize = 5;
+const ARM: [Step; 7] = [
+    Step("WaitDspStatus", "DspStatus from Dsp"),
+    Step("WaitAvrStatus", "AvrStatus from Avr"),
+    Step("WaitArmAck", "ConfigAck or ConfigNack from Avr"),
+    Step(
+        "WaitPiAndArmed got_pi=false got_armed=false",
+        "a Text that contains ARMED and not CANCELLED, and a PiStatus, in either order, from any source",
+    ),
+    Step(
+        "WaitPiAndArmed got_pi=true got_armed=false",
+        "a Text that contains ARMED and not CANCELLED, from any source",
+    ),
+    Step(
+        "WaitPiAndArmed got_pi=false got_armed=true",
+        "a PiStatus from any source",
+    ),
+    Step("Done", ""),
+];
 
-pub const ARM: usize = 6;
-
-// Whether a step or a number has this key: it is the key, or goes on with its fields.
-fn has_key(word: &[u8], key: &[u8]) -> bool {
-    if !begins(word, key) {
-        return false;
-    }
-    if word.len() == key.len() {
-        return true;
-    }
-    byte_at(word, key.len()) == b' '
-}
-
-// The place of the row whose key a word has, among those from one place to another; `to` where none is.
-fn row(table: &[u8], from: usize, to: usize, word: &[u8]) -> usize {
-    let mut at = from;
-    let mut turns = table.len();
-    while 0 < turns && at < to {
-        if has_key(word, key_at(table, at)) {
-            return at;
+impl Sequence {
+    pub fn name(self) -> &'static str {
+        match self {
+            Sequence::Dsp => "the DSP start-up",
+            Sequence::Avr => "the AVR start-up",
+            Sequence::Pi => "the Pi start-up",
+            Sequence::Settings => "the settings run",
+            Sequence::Disarm => "the disarm",
+            Sequence::Arm => "the arm",
         }
-        at = behind(table, at, b'|');
-        turns -= 1;
     }
-    to
+
+    fn steps(self) -> &'static [Step] {
+        match self {
+            Sequence::Dsp => &DSP,
+            Sequence::Avr => &AVR,
+            Sequence::Pi => &PI,
+            Sequence::Settings => &SETTINGS,
+            Sequence::Disarm => &DISARM,
+            Sequence::Arm => &ARM,
+        }
+    }
+
+    // The step of an answer, with its fields.
+    pub fn step(self, answered: &[u8]) -> Option<Step> {
+        self.steps()
+            .iter()
+            .find(|step| step.is_in(answered))
+            .copied()
+    }
 }
 
-// The key of a row.
-pub fn key_at(table: &[u8], row: usize) -> &[u8] {
-    part(table, row, find(table, row, b':'))
-}
-
-// The words of a row.
-pub fn words_at(table: &[u8], row: usize) -> &[u8] {
-    part(table, behind(table, row, b':'), find(table, row, b'|'))
+impl Step {
+    // Whether an answer's step is this one: it is the name, or goes on with its fields.
+    fn is_in(&self, answered: &[u8]) -> bool {
+        match answered.strip_prefix(self.0.as_bytes()) {
+            Some(fields) => fields.is_empty() || fields.starts_with(b" "),
+            None => false,
+        }
+    }
 }
 
 // Why a call is refused.
-pub fn reason<'a>(refusals: &'a [u8], number: &[u8]) -> &'a [u8] {
-    words_at(refusals, row(refusals, 0, refusals.len(), number))
-}
-
-// Where the rows of a sequence begin.
-pub fn rows_of(sequences: &[u8], sequence: usize) -> usize {
-    place(sequences, sequence, b';')
-}
-
-fn step_in(sequences: &[u8], sequence: usize, step: &[u8]) -> usize {
-    let from = rows_of(sequences, sequence);
-    row(sequences, from, find(sequences, from, b';'), step)
-}
-
-// The place of the row of a step.
-pub fn step_row(sequence: usize, step: &[u8]) -> usize {
-    step_in(&SEQUENCES, sequence, step)
+pub fn reason(number: &[u8]) -> &'static str {
+    match REFUSALS.iter().find(|(n, _)| n.as_bytes() == number) {
+        Some((_, reason)) => reason,
+        None => "",
+    }
 }

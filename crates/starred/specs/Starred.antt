@@ -1,15 +1,16 @@
 -- The starred trials of the scope (01: "Trials"), one row each: what the definitions that the contracts cite answer, and what the scope
 -- says. Proved as a whole.
 -- Assumes nothing.
-use Rattle.std.specs.Prelude.{◌≡◌, refl, true, false, List, [], ◌∷◌, map, ℕ}
+use Rattle.std.specs.Prelude.{◌≡◌, refl, true, false, List, [], ◌∷◌, map, ℕ, Option, Some, None, Result, Ok}
 use Rattle.protocol.specs.declared.BusAddr.{BusAddr}
 use Rattle.protocol.specs.declared.DspStatus.{DspStatus}
 use Rattle.protocol.specs.declared.Command.{Command}
 use Rattle.protocol.specs.declared.Message.{Message}
 use Rattle.protocol.specs.declared.Action.{Action}
+use Rattle.protocol.specs.declared.Refusal.{Refusal}
 use Rattle.protocol.specs.declared.Stored.{Stored}
 use Rattle.protocol.specs.Stored.{stored}
-use Rattle.protocol.specs.Action.{no_action, send_to}
+use Rattle.protocol.specs.Action.{send_to}
 use Rattle.device.specs.declared.model.DeviceModel.{DeviceModel}
 use Rattle.device.specs.Model.{model_of}
 use Rattle.device.specs.Sends.{result_ack}
@@ -28,7 +29,8 @@ use Rattle.dsp.specs.Answers.{begun, fed_to, polled}
 -- what a call can answer
 pub data Answer : Type 0 where
   model : DeviceModel → Answer
-  action : Action → Answer
+  action : Option Action → Answer
+  outcome : Result (Option Action) Refusal → Answer
   bytes : Stored → Answer
   arming : ArmStep → Answer
 
@@ -99,20 +101,20 @@ starred =
     -- "abFS Xi": Xi
     trial (model (model_of (97 ∷ 98 ∷ 70 ∷ 83 ∷ 32 ∷ 88 ∷ 105 ∷ []))) (model DeviceModel.Xi) ∷
     -- Xi, Avr, 0xD4: ack 0x54
-    trial (action (result_ack DeviceModel.Xi BusAddr.Avr 0xD4)) (action (ack 0x54)) ∷
+    trial (action (result_ack DeviceModel.Xi BusAddr.Avr 0xD4)) (action (Some (ack 0x54))) ∷
     -- 0xE8: ack 0x68
-    trial (action (result_ack DeviceModel.Xi BusAddr.Avr 0xE8)) (action (ack 0x68)) ∷
+    trial (action (result_ack DeviceModel.Xi BusAddr.Avr 0xE8)) (action (Some (ack 0x68))) ∷
     -- Mevo: no ack
-    trial (action (result_ack DeviceModel.Mevo BusAddr.Avr 0xD4)) (action no_action) ∷
-    trial (action (result_ack DeviceModel.Mevo BusAddr.Avr 0xE8)) (action no_action) ∷
+    trial (action (result_ack DeviceModel.Mevo BusAddr.Avr 0xD4)) (action None) ∷
+    trial (action (result_ack DeviceModel.Mevo BusAddr.Avr 0xE8)) (action None) ∷
     -- DSP status at 5,000,000,000; check at 6,999,999,999: nothing
-    trial (action (polled waiting 6_999_999_999).action) (action no_action) ∷
+    trial (outcome (polled waiting 6_999_999_999).outcome) (outcome (Ok None)) ∷
     -- at 7,000,000,000: DevInfoReq
-    trial (action (polled (polled waiting 6_999_999_999).seq 7_000_000_000).action) (action (send_to BusAddr.Dsp Command.DevInfoReq)) ∷
+    trial (outcome (polled (polled waiting 6_999_999_999).seq 7_000_000_000).outcome) (outcome (Ok (Some (send_to BusAddr.Dsp Command.DevInfoReq)))) ∷
     -- AVR nacks 0x2A at 1,000,000,000 and 1,500,000,000; check at 2,000,000,000: one poll
-    trial (action (avr.polled refused 2_000_000_000).action) (action (send_to BusAddr.Avr (Command.StatusPoll (record { pi_mode = false })))) ∷
+    trial (outcome (avr.polled refused 2_000_000_000).outcome) (outcome (Ok (Some (send_to BusAddr.Avr (Command.StatusPoll (record { pi_mode = false })))))) ∷
     -- again: nothing
-    trial (action (avr.polled (avr.polled refused 2_000_000_000).seq 2_000_000_000).action) (action no_action) ∷
+    trial (outcome (avr.polled (avr.polled refused 2_000_000_000).seq 2_000_000_000).outcome) (outcome (Ok None)) ∷
     -- network text a,0,b,0,c: ssid a; password b,0,c
     trial (bytes (ssid_in (network (97 ∷ 0 ∷ 98 ∷ 0 ∷ 99 ∷ [])))) (bytes (stored (97 ∷ []))) ∷
     trial (bytes (password_in (network (97 ∷ 0 ∷ 98 ∷ 0 ∷ 99 ∷ [])))) (bytes (stored (98 ∷ 0 ∷ 99 ∷ []))) ∷

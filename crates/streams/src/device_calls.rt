@@ -1,36 +1,32 @@
 // The answers to the calls of the device crate.
 use device::model::DeviceModel;
+use device::sends;
 use protocol::Action;
-use reading::call::DeviceCall;
-use words::part;
-use writing::write::OUT;
+use reading::DeviceCall;
+use std::io;
+use std::io::Write;
 use writing::{send, write};
 
-fn keepalive(actions: [Action; 3], out: &mut [u8; OUT], at: usize) -> usize {
-    let mut end = at;
-    let mut i = 0;
-    while i < 3 {
+fn keepalive<W: Write>(out: &mut W, actions: &[Option<Action>; 3]) -> io::Result<()> {
+    for (i, action) in actions.iter().enumerate() {
         if 0 < i {
-            end = write::text(out, end, b"; ");
+            out.write_all(b"; ")?;
         }
-        let action = actions[i];
-        end = send::send(out, end, action);
-        i += 1;
+        send::send(out, action)?;
     }
-    end
+    Ok(())
 }
 
-pub fn answer(call: DeviceCall, bytes: &[u8], out: &mut [u8; OUT], at: usize) -> usize {
+pub fn answer<W: Write>(out: &mut W, call: DeviceCall<'_>) -> io::Result<()> {
     match call {
         DeviceCall::Ack(model, src, type_id) => {
-            send::send(out, at, device::sends::result_ack(model, src, type_id))
+            send::send(out, &sends::result_ack(model, src, type_id))
         }
-        DeviceCall::Keepalive => keepalive(device::sends::keepalive_actions(), out, at),
-        DeviceCall::KeepaliveFor(model) => {
-            keepalive(device::sends::keepalive_actions_for(model), out, at)
-        }
-        DeviceCall::Model(end) => {
-            write::model(out, at, DeviceModel::from_dev_info(part(bytes, 0, end)))
+        DeviceCall::Keepalive => keepalive(out, &sends::keepalive_actions()),
+        DeviceCall::KeepaliveFor(model) => keepalive(out, &sends::keepalive_actions_for(model)),
+        DeviceCall::Model(payload) => {
+            let model = DeviceModel::from_dev_info(payload);
+            out.write_all(write::model(model).as_bytes())
         }
     }
 }

@@ -3,23 +3,39 @@
 #![tactic(auto)]
 
 use std::fs::File;
-use std::io::Write;
-use streams::Source;
+use std::io;
+use streams::answers::Form;
 
-fn run(rt: &HostRuntime, path: &str, with_state: bool, shown: bool) {
-    match File::open(rt, path) {
-        Ok(file) => {
-            lists::replay(Source::Opened(&file), rt.stdout(), with_state, shown);
-        }
-        Err(_) => {
-            let _ = rt.stdout().write_all(path.as_bytes());
-            let _ = rt.stdout().write_all(b" can't be opened\n");
-        }
+fn run(rt: &HostRuntime, path: &str, form: Form) -> io::Result<()> {
+    let Ok(file) = File::open(rt, path) else {
+        return println!(rt; "{path} can't be opened");
+    };
+    match lists::replay(rt.alloc(), file, rt.stdout(), form) {
+        Ok(_) => Ok(()),
+        Err(failure) => println!(rt; "{path}: {failure:?}"),
     }
 }
 
-fn main(rt: HostRuntime) {
-    run(&rt, "trials.list", false, false);
-    run(&rt, "examples.list", false, true);
-    run(&rt, "odd.list", true, true);
+fn main(rt: HostRuntime) -> io::Result<()> {
+    let plain = Form {
+        shown: false,
+        with_state: false,
+    };
+    run(&rt, "trials.list", plain)?;
+    run(
+        &rt,
+        "examples.list",
+        Form {
+            shown: true,
+            ..plain
+        },
+    )?;
+    run(
+        &rt,
+        "odd.list",
+        Form {
+            shown: true,
+            with_state: true,
+        },
+    )
 }

@@ -1,4 +1,4 @@
-// Writes answers into the output buffer, as docs/REPLAY.md says. Each function writes from `at` on, and answers where it ended.
+// Writes answers, as docs/REPLAY.md says. Each function writes to any writer, and fails where that does.
 #![tactic(auto)]
 
 pub mod fields;

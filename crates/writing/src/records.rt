@@ -1,131 +1,103 @@
 // Records that sequences store.
-use crate::fields::FIELDS;
-use crate::write::OUT;
 use crate::{fields, write};
 use protocol::{
-    BusAddr, ConfigAck, ConfigResp, DevInfoResp, DspQueryResp, DspStatus, DspStatus46, DspStatus80,
-    OptionConfigResp, OptionDevInfoResp, ProdInfoResp, Stored,
+    ConfigResp, DevInfoResp, DspQueryResp, DspStatus, DspStatus46, DspStatus80, Nack, ProdInfoResp,
+    Stored,
 };
-use sequence::OptionInstant;
+use std::io;
+use std::io::Write;
 
 // A nack, with the source and the type id of its envelope.
-pub fn nack(out: &mut [u8; OUT], at: usize, src: BusAddr, type_id: u8, nack: ConfigAck) -> usize {
-    let values = fields::three(
-        fields::byte(type_id),
-        fields::byte(nack.bus_addr),
-        fields::byte(nack.acked_cmd),
-    );
-    let mut end = write::text(out, at, b"src=");
-    end = write::source(out, end, src);
-    fields::numbers(out, end, b"type_id:x bus_addr:x acked_cmd:x ;", 0, &values)
+pub fn nack<W: Write>(out: &mut W, nack: &Nack) -> io::Result<()> {
+    write!(
+        out,
+        "src={} type_id=0x{:02X} bus_addr=0x{:02X} acked_cmd=0x{:02X}",
+        write::source(nack.src),
+        nack.type_id,
+        nack.nack.bus_addr,
+        nack.nack.acked_cmd
+    )
 }
 
-fn numbers_80(s: DspStatus80) -> [u64; FIELDS] {
-    [
-        fields::byte(s.state),
-        fields::short(s.input_voltage_usb),
-        fields::short(s.system_voltage),
-        fields::short(s.battery_current),
-        fields::short(s.temperature_raw),
-        fields::short(s.battery_voltage),
-        fields::short(s.battery_voltage_2),
-        fields::short(s.power_level),
-        fields::flag(s.external_power),
-        0,
-    ]
+fn status_80<W: Write>(out: &mut W, s: DspStatus80) -> io::Result<()> {
+    write!(
+        out,
+        " status=V80 state={} input_voltage_usb={} system_voltage={} battery_current={} temperature_raw={}",
+        s.state, s.input_voltage_usb, s.system_voltage, s.battery_current, s.temperature_raw
+    )?;
+    write!(
+        out,
+        " battery_voltage={} battery_voltage_2={} power_level={} external_power={}",
+        s.battery_voltage, s.battery_voltage_2, s.power_level, s.external_power
+    )
 }
 
-fn status_80(out: &mut [u8; OUT], at: usize, s: DspStatus80) -> usize {
-    let values = numbers_80(s);
-    let end = fields::word(out, at, b"status", b"V80");
-    let layout =
-        b"state:n input_voltage_usb:i system_voltage:i battery_current:i temperature_raw:i battery_voltage:i \
-        battery_voltage_2:i power_level:i external_power:b ;";
-    fields::numbers(out, end, layout, 0, &values)
-}
-
-fn status_46(out: &mut [u8; OUT], at: usize, s: DspStatus46) -> usize {
-    let values = fields::three(fields::byte(s.state), fields::byte(s.version), 0);
-    let end = fields::word(out, at, b"status", b"V46");
-    fields::numbers(out, end, b"state:n version:x ;", 0, &values)
+fn status_46<W: Write>(out: &mut W, s: DspStatus46) -> io::Result<()> {
+    write!(
+        out,
+        " status=V46 state={} version=0x{:02X}",
+        s.state, s.version
+    )
 }
 
 // A status; the payload is that of a V46.
-pub fn status(out: &mut [u8; OUT], at: usize, status: DspStatus, payload: Stored) -> usize {
-    match status {
-        DspStatus::V80(s) => status_80(out, at, s),
+pub fn status<W: Write>(out: &mut W, status: &DspStatus, payload: &Stored) -> io::Result<()> {
+    match *status {
+        DspStatus::V80(s) => status_80(out, s),
         DspStatus::V46(s) => {
-            let end = status_46(out, at, s);
-            fields::stored(out, end, b"payload", payload)
+            status_46(out, s)?;
+            fields::stored(out, "payload", payload)
         }
     }
 }
 
-pub fn hw_info(out: &mut [u8; OUT], at: usize, info: DspQueryResp) -> usize {
-    let values = fields::three(
-        fields::byte(info.version),
-        fields::byte(info.dsp_type),
-        fields::byte(info.pcb),
-    );
-    fields::numbers(out, at, b"hw_info=version:x dsp_type:x pcb:n ;", 0, &values)
+pub fn hw_info<W: Write>(out: &mut W, info: DspQueryResp) -> io::Result<()> {
+    write!(
+        out,
+        " hw_info=version=0x{:02X} dsp_type=0x{:02X} pcb={}",
+        info.version, info.dsp_type, info.pcb
+    )
 }
 
-pub fn dev_info(out: &mut [u8; OUT], at: usize, info: DevInfoResp) -> usize {
-    let text = info.text;
-    let payload = info.payload;
-    let end = fields::stored(out, at, b"dev_info=text", text);
-    fields::stored(out, end, b"payload", payload)
+pub fn dev_info<W: Write>(out: &mut W, info: &DevInfoResp) -> io::Result<()> {
+    fields::stored(out, "dev_info=text", &info.text)?;
+    fields::stored(out, "payload", &info.payload)
 }
 
-pub fn optional_dev_info(out: &mut [u8; OUT], at: usize, info: OptionDevInfoResp) -> usize {
-    if info.some {
-        let value = info.value;
-        return dev_info(out, at, value);
+pub fn optional_dev_info<W: Write>(out: &mut W, info: &Option<DevInfoResp>) -> io::Result<()> {
+    match info {
+        Some(info) => dev_info(out, info),
+        None => fields::none(out, "dev_info"),
     }
-    fields::none(out, at, b"dev_info")
 }
 
-fn one_info(out: &mut [u8; OUT], at: usize, info: ProdInfoResp) -> usize {
-    let text = info.text;
-    fields::stored(out, at, b"prod_info", text)
-}
-
-pub fn prod_info(out: &mut [u8; OUT], at: usize, infos: [ProdInfoResp; 3]) -> usize {
-    let first = infos[0];
-    let second = infos[1];
-    let third = infos[2];
-    let mut end = one_info(out, at, first);
-    end = one_info(out, end, second);
-    one_info(out, end, third)
+pub fn prod_info<W: Write>(out: &mut W, infos: &[ProdInfoResp; 3]) -> io::Result<()> {
+    for info in infos {
+        fields::stored(out, "prod_info", &info.text)?;
+    }
+    Ok(())
 }
 
 // The 34 numbers, with commas between them.
-pub fn config(out: &mut [u8; OUT], at: usize, config: ConfigResp) -> usize {
-    let params = config.params;
-    let mut end = fields::name(out, at, b"params");
-    let mut i = 0;
-    while i < 34 {
-        if 0 < i {
-            end = write::byte(out, end, b',');
-        }
-        let n = params[i];
-        end = write::signed(out, end, fields::short(n));
-        i += 1;
+pub fn config<W: Write>(out: &mut W, config: &ConfigResp) -> io::Result<()> {
+    let mut before = " params=";
+    for n in &config.params {
+        write!(out, "{before}{n}")?;
+        before = ",";
     }
-    end
+    Ok(())
 }
 
-pub fn optional_config(out: &mut [u8; OUT], at: usize, numbers: OptionConfigResp) -> usize {
-    if numbers.some {
-        let value = numbers.value;
-        return config(out, at, value);
+pub fn optional_config<W: Write>(out: &mut W, numbers: &Option<ConfigResp>) -> io::Result<()> {
+    match numbers {
+        Some(numbers) => config(out, numbers),
+        None => fields::none(out, "params"),
     }
-    fields::none(out, at, b"params")
 }
 
-pub fn instant(out: &mut [u8; OUT], at: usize, field: &[u8], instant: OptionInstant) -> usize {
-    if instant.some {
-        return fields::number(out, at, field, instant.value);
+pub fn instant<W: Write>(out: &mut W, name: &str, instant: Option<u64>) -> io::Result<()> {
+    match instant {
+        Some(instant) => write!(out, " {name}={instant}"),
+        None => fields::none(out, name),
     }
-    fields::none(out, at, field)
 }

@@ -1,21 +1,16 @@
--- `kept_params` meets its contract: each turn copies one parameter more, to as many as count.
+-- `kept_params` meets its contract.
 -- Assumes nothing.
-use Rattle.std.proofs.Common.{◌≡◌, length, arith, rules}
-use Prim.Native.Nat.{min}
-use Rattle.protocol.proofs.Filled.{more}
-use Rattle.settings.specs.Settings.{no_param}
+use Rattle.std.proofs.Common.{◌≡◌, ℕ, min, arith, List, ◌++◌, take, drop, replicate, refl}
+use Rattle.std.proofs.lemmas.List.{drop-replicate}
+use Rattle.protocol.specs.declared.ParamValue.{ParamValue}
+use Rattle.settings.specs.Settings.{no_param, count, kept_params}
 use Rattle.settings.proofs.kept_params.Goals as goal
 
-pub loop-i-preserved : goal.loop-i-preserved
-loop-i-preserved c =
-    let there : length c.args.params ≡ 32 = search rules in
-    record {
-      in_range = omega arith;
-      counted = c.loop-i.invariant.counted;
-      copied = rw c.loop-i.invariant.copied (more 32 no_param c.args.params c.loop-i.i (omega arith) (omega arith));
-    }
+-- the first n before empty places, as they are copied
+made : (params part : List ParamValue) (len n : ℕ) → n ≡ min len 32 → part ≡ take n params → part ++ drop n (replicate 32 no_param) ≡ kept_params params len
+made params part len n h e =
+    let m : n ≡ count len = omega (arith, h) in
+    rw (e, m, drop-replicate {X = ParamValue} (count len) 32 no_param) refl
 
 pub returns : goal.returns
-returns c =
-    let e : c.loop-i.i ≡ min 32 c.args.len = omega arith in
-    rw (c.loop-i.invariant.copied, e)
+returns c = made c.args.params c.copy_from_slice.new.self c.args.len c.min-n.result c.min-n.ensures c.copy_from_slice.ensures.after

@@ -8,7 +8,7 @@ use Rattle.arm.specs.Answers.{counted}
 use Rattle.arm.proofs.Steps.{by_step}
 use Rattle.arm.proofs.ArmSequencer.feed.Goals as goal
 
-pub returns-in-Accepted : goal.returns-in-Accepted
-returns-in-Accepted c = let a = c.args in
+pub returns-in-Ok : goal.returns-in-Ok
+returns-in-Ok c = let a = c.args in
     let e : Envelope = record { src = a.src; type_id = a.type_id; message = a.message; params = []; text = a.text.now; payload = a.payload.now } in
-    c.counted.ensures ∙ ap (λ (w : ArmMoved). counted a.self w) (c.feed.ensures ∙ unread a.self.step a.self.wait_pi e) ∙ by_step a.self e (sym c.in-Accepted.ensures)
+    c.counted.ensures ∙ ap (λ (w : ArmMoved). counted a.self w) (c.feed-moved.ensures ∙ unread a.self.step a.self.wait_pi e) ∙ by_step a.self e (sym c.in-Ok.ensures)

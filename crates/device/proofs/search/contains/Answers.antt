@@ -1,19 +1,20 @@
--- `contains` meets its contract: a place where the same bytes stand is one, and from where the slice is too short there is none.
+-- A place from which the needle stands is one, and from where the slice is too short there is none.
 -- Assumes nothing.
-use Rattle.std.proofs.Common.{◌≡◌, ℕ, ◌+◌, ◌-◌, ◌<◌, ◌≤◌, true, false, List, length, take, drop, suc, sym, ◌∙◌, arith}
-use mathlib.Core.Bool.{true≢false}
+use Rattle.std.proofs.Common.{Bool, ◌≡◌, ℕ, ◌+◌, ◌-◌, ◌<◌, ◌≤◌, true, false, List, length, take, drop, suc, sym, ◌∙◌, arith}
+use lib.Dec.{eqb}
+use lib.Seq.{take_all}
+use lib.ListN.{length-drop}
 use native.Mathlib.Decide.{dec_le}
+use Rattle.std.specs.List.{starts_with}
 use Rattle.device.specs.Search.{stands_at, contains}
-use Rattle.device.proofs.Contains.{eq→same, differ, any_one, any_none, too_short}
+use Rattle.device.proofs.Contains.{starts, any_one, any_none}
 use Rattle.device.proofs.search.contains.Goals as goal
 
--- nowhere up to the place i, from which on it is too short
-nowhere : (w s : List ℕ) (i : ℕ) → length s < i + length w → ((k : ℕ) → k < i → stands_at w s k ≡ false) → contains w s ≡ false
-nowhere w s i h n = any_none (suc (length s)) (stands_at w s) (λ k l. go k (omega arith) (dec_le i k))
-  where
-    go : (k : ℕ) → k ≤ length s → Dec (i ≤ k) → stands_at w s k ≡ false
-    go k l (yes b) = too_short w s k l (omega arith)
-    go k l (no b) = n k (omega arith)
+-- what is tested at a place
+tested : (s w : List ℕ) (i : ℕ) (b : Bool) → b ≡ starts_with eqb (take (length s - i) (drop i s)) w → stands_at w s i ≡ b
+tested s w i b h =
+    let whole : take (length s - i) (drop i s) ≡ drop i s = take_all (length s - i) (drop i s) (rw (length-drop i s) (omega arith)) in
+    sym (h ∙ rw whole (starts (drop i s) w))
 
 -- one place more
 one_more : (w s : List ℕ) (i : ℕ) → ((k : ℕ) → k < i → stands_at w s k ≡ false) → stands_at w s i ≡ false
@@ -24,29 +25,22 @@ one_more w s i n e k l = go (dec_le i k)
     go (yes b) = let same-i : k ≡ i = omega arith in rw same-i e
     go (no b) = n k (omega arith)
 
--- a part from i to i + m has m bytes
-width : (i m : ℕ) → i + m - i ≡ m
-width i m = omega arith
-
-pub returns-then-s-m : goal.returns-then-s-m
-returns-then-s-m c = sym (nowhere c.args.needle.now c.args.s.now 0 (omega arith) (λ k l. absurd (omega arith)))
-
-pub returns-then-same : goal.returns-then-same
-returns-then-same c =
+pub returns-then-starts_with : goal.returns-then-starts_with
+returns-then-starts_with c =
     let s = c.args.s.now in
     let w = c.args.needle.now in
-    let i = c.loop-i.i in
-    let found : stands_at w s i ≡ true = eq→same _ w (rw (width i (length w)) at (c.same.ensures.0 c.if-same.true)) in
-    sym (any_one (suc (length s)) (stands_at w s) i (omega arith) found)
+    sym (any_one (suc (length s)) (stands_at w s) c.loop-i.i (omega arith) (tested s w c.loop-i.i _ c.starts_with.ensures.value ∙ c.if-starts_with.true))
 
 pub loop-i-preserved : goal.loop-i-preserved
 loop-i-preserved c =
     let s = c.args.s.now in
     let w = c.args.needle.now in
-    let i = c.loop-i.i in
-    let not-here : take (length w) (drop i s) ≡ w → ⊥ = λ e.
-    true≢false (sym (c.same.ensures.1 (rw (width i (length w)) e)) ∙ c.if-same.false) in
-    record { in_range = omega arith; nowhere = one_more w s i c.loop-i.invariant.nowhere (differ _ w not-here) }
+    one_more w s c.loop-i.i c.loop-i.invariant (tested s w c.loop-i.i _ c.starts_with.ensures.value ∙ c.if-starts_with.false)
 
-pub returns : goal.returns
-returns c = sym (nowhere c.args.needle.now c.args.s.now c.loop-i.i (omega arith) c.loop-i.invariant.nowhere)
+pub returns-else-starts_with : goal.returns-else-starts_with
+returns-else-starts_with c =
+    let s = c.args.s.now in
+    let w = c.args.needle.now in
+    let last : c.loop-i.i ≡ length s = omega arith in
+    let n = one_more w s c.loop-i.i c.loop-i.invariant (tested s w c.loop-i.i _ c.starts_with.ensures.value ∙ c.if-starts_with.false) in
+    sym (any_none (suc (length s)) (stands_at w s) (λ k l. n k (omega arith)))

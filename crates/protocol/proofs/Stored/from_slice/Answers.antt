@@ -1,31 +1,21 @@
--- `Stored::from_slice` meets its contract: with n of them, 256 or all, the copied bytes are what is to be stored.
+-- `Stored::from_slice` meets its contract.
 -- Assumes nothing.
-use Rattle.std.proofs.Common.{◌≡◌, ℕ, ◌-◌, ◌<◌, ◌≤◌, List, length, arith}
-use Prim.Native.Nat.{min}
-use lib.Seq.{take_all, take-length}
-use Rattle.protocol.specs.Stored.{stored}
+use Rattle.std.proofs.Common.{◌≡◌, ℕ, ◌-◌, min, arith, List, ◌++◌, length, take, drop, replicate, refl}
+use Rattle.std.proofs.lemmas.List.{drop-replicate, take_min}
 use Rattle.protocol.specs.declared.Stored.{Stored}
-use Rattle.protocol.proofs.Filled.{filled}
+use Rattle.protocol.specs.Stored.{stored}
 use Rattle.protocol.proofs.Stored.from_slice.Goals as goal
-use Rattle.protocol.proofs.Stored.from_slice.Goals.{then-n-gt256, else-n-gt256}
 
-long : (s : List ℕ) (n : ℕ) → 256 < length s → n ≡ 256 → ◌≡◌ {A = Stored} (record { bytes = filled 256 0 s n; len = n }) (stored s)
-unfolding stored
-long s n h e =
-    let z : 256 - length s ≡ 0 = omega arith in
-    let m : min 256 (length s) ≡ 256 = omega arith in
-    rw (e, z, m)
+abbrev kept : List ℕ → ℕ → Stored
+kept b n = record { bytes = b; len = n }
 
-short : (s : List ℕ) (n : ℕ) → length s ≤ 256 → n ≡ length s → ◌≡◌ {A = Stored} (record { bytes = filled 256 0 s n; len = n }) (stored s)
+-- the first n of s before zeros, as they are copied
+made : (s part : List ℕ) (n : ℕ) → n ≡ min (length s) 256 → part ≡ take n s → kept (part ++ drop n (replicate 256 0)) n ≡ stored s
 unfolding stored
-short s n h e =
-    let m : min 256 (length s) ≡ length s = omega arith in
-    rw (e, m, take_all 256 s h, take-length s)
+made s part n h e =
+    let m : n ≡ min 256 (length s) = omega (arith, h) in
+    let d : 256 - min 256 (length s) ≡ 256 - length s = omega arith in
+    rw (e, m, take_min 256 s, drop-replicate {X = ℕ} (min 256 (length s)) 256 0, d) refl
 
 pub returns : goal.returns
-returns c =
-    let s = c.args.s.now in
-    let n = c.if-n-gt256.n in
-    let e : c.loop-i.i ≡ n = omega arith in
-    rw (c.loop-i.invariant.copied, e)
-    (elim c.if-n-gt256.branch [ then-n-gt256 w ↦ long s n (omega arith) (omega arith) | else-n-gt256 w ↦ short s n (omega arith) (omega arith) ])
+returns c = made c.args.s.now c.copy_from_slice.new.self c.min-len.result c.min-len.ensures c.copy_from_slice.ensures.after

@@ -1,5 +1,0 @@
--- `folding::split::step` is safe and ends: the turns are counted down. Assumes nothing.
-use Rattle.folding.proofs.split.step.Given as goal
-
-abbrev pub decreases-loop-turns : goal.decreases-loop-turns
-decreases-loop-turns l = l.turns

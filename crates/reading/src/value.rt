@@ -1,0 +1,150 @@
+// Numbers, bools, floats and the names of models and sources.
+use crate::reason::Reason;
+use device::model::DeviceModel;
+use protocol::BusAddr;
+use std::num::f64_from_bits_with_nan;
+
+// What a word, or the value of a field, can be read as.
+pub trait Value: Sized {
+    fn read(word: &[u8]) -> Result<Self, Reason>;
+}
+
+// Whether a byte is a hexadecimal digit. No branch is taken, here and in `digit`: which digit comes can't be foretold.
+pub fn is_hex(b: u8) -> bool {
+    // small letters have this bit more than capitals
+    let letter = (b | 0x20).wrapping_sub(b'a');
+    (b.wrapping_sub(b'0') < 10) | (letter < 6)
+}
+
+// The value of a hexadecimal digit; of any other byte, some number below 16.
+pub fn digit(b: u8) -> u8 {
+    (b % 16 + 9 * (b / 64)) % 16
+}
+
+// The number that digits write: decimal ones, or hexadecimal ones with a radix of 16.
+fn number(digits: &[u8], radix: u8) -> Result<u64, Reason> {
+    let is_digit = |b: &u8| is_hex(*b) & (digit(*b) < radix);
+    if digits.is_empty() || !digits.iter().all(is_digit) {
+        return Err(Reason::NotANumber);
+    }
+    digits
+        .iter()
+        .try_fold(0u64, |n, b| {
+            n.checked_mul(u64::from(radix))?
+                .checked_add(u64::from(digit(*b)))
+        })
+        .ok_or(Reason::OutOfRange)
+}
+
+// A number without a sign.
+fn magnitude(word: &[u8]) -> Result<u64, Reason> {
+    match word.strip_prefix(b"0x") {
+        Some(digits) => number(digits, 16),
+        None => number(word, 10),
+    }
+}
+
+fn unsigned<T: TryFrom<u64>>(word: &[u8]) -> Result<T, Reason>
+where
+    T::Error: Drop,
+{
+    T::try_from(magnitude(word)?).map_err(|_| Reason::OutOfRange)
+}
+
+fn signed<T: TryFrom<i64>>(word: &[u8]) -> Result<T, Reason>
+where
+    T::Error: Drop,
+{
+    let value = match word.strip_prefix(b"-") {
+        Some(digits) => i64::try_from(number(digits, 10)?).map(|n| n.wrapping_neg()),
+        None => i64::try_from(magnitude(word)?),
+    };
+    value
+        .ok()
+        .and_then(|n| T::try_from(n).ok())
+        .ok_or(Reason::OutOfRange)
+}
+
+impl Value for u8 {
+    fn read(word: &[u8]) -> Result<u8, Reason> {
+        unsigned(word)
+    }
+}
+
+impl Value for u16 {
+    fn read(word: &[u8]) -> Result<u16, Reason> {
+        unsigned(word)
+    }
+}
+
+impl Value for u32 {
+    fn read(word: &[u8]) -> Result<u32, Reason> {
+        unsigned(word)
+    }
+}
+
+impl Value for u64 {
+    fn read(word: &[u8]) -> Result<u64, Reason> {
+        magnitude(word)
+    }
+}
+
+impl Value for i16 {
+    fn read(word: &[u8]) -> Result<i16, Reason> {
+        signed(word)
+    }
+}
+
+impl Value for i32 {
+    fn read(word: &[u8]) -> Result<i32, Reason> {
+        signed(word)
+    }
+}
+
+impl Value for bool {
+    fn read(word: &[u8]) -> Result<bool, Reason> {
+        match word {
+            b"true" => Ok(true),
+            b"false" => Ok(false),
+            _ => Err(Reason::NotABool),
+        }
+    }
+}
+
+// By the 16 digits of its bits.
+impl Value for f64 {
+    fn read(word: &[u8]) -> Result<f64, Reason> {
+        let digits = word.strip_prefix(b"0x").ok_or(Reason::NotAFloat)?;
+        if digits.len() != 16 {
+            return Err(Reason::NotAFloat);
+        }
+        let bits = number(digits, 16).map_err(|_| Reason::NotAFloat)?;
+        let value = f64_from_bits_with_nan(bits);
+        if value.is_nan() {
+            return Err(Reason::Nan);
+        }
+        Ok(value)
+    }
+}
+
+impl Value for DeviceModel {
+    fn read(word: &[u8]) -> Result<DeviceModel, Reason> {
+        match word {
+            b"Mevo" => Ok(DeviceModel::Mevo),
+            b"Xi" => Ok(DeviceModel::Xi),
+            _ => Err(Reason::UnknownModel),
+        }
+    }
+}
+
+impl Value for BusAddr {
+    fn read(word: &[u8]) -> Result<BusAddr, Reason> {
+        match word {
+            b"App" => Ok(BusAddr::App),
+            b"Pi" => Ok(BusAddr::Pi),
+            b"Avr" => Ok(BusAddr::Avr),
+            b"Dsp" => Ok(BusAddr::Dsp),
+            _ => Err(Reason::UnknownSource),
+        }
+    }
+}

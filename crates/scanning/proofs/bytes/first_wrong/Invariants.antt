@@ -1,6 +1,0 @@
--- `scanning::bytes::first_wrong` is safe and ends: each turn leaves fewer bytes of `s`. Assumes nothing.
-use Rattle.std.proofs.Common.{◌-◌, length}
-use Rattle.scanning.proofs.bytes.first_wrong.Given as goal
-
-abbrev pub decreases-loop-i : goal.decreases-loop-i
-decreases-loop-i l = length l.s - l.i

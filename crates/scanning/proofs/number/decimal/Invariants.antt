@@ -1,6 +1,0 @@
--- `scanning::number::decimal` is safe and ends: each turn leaves fewer bytes of `line`. Assumes nothing.
-use Rattle.std.proofs.Common.{◌-◌, length}
-use Rattle.scanning.proofs.number.decimal.Given as goal
-
-abbrev pub decreases-loop-i : goal.decreases-loop-i
-decreases-loop-i l = length l.line - l.i

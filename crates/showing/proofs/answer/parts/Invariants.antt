@@ -1,5 +1,0 @@
--- `showing::answer::parts` is safe and ends: the turns are counted down. Assumes nothing.
-use Rattle.showing.proofs.answer.parts.Given as goal
-
-abbrev pub decreases-loop-turns : goal.decreases-loop-turns
-decreases-loop-turns l = l.turns

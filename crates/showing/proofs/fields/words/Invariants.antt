@@ -1,5 +1,0 @@
--- `showing::fields::words` is safe and ends: the turns are counted down. Assumes nothing.
-use Rattle.showing.proofs.fields.words.Given as goal
-
-abbrev pub decreases-loop-turns : goal.decreases-loop-turns
-decreases-loop-turns l = l.turns

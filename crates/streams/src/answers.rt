@@ -1,0 +1,173 @@
+// The answers to a list's calls, as they are written out.
+use crate::Failure;
+use crate::lines::Line;
+use crate::running::Sequence;
+use reading::{Bad, Call, LINE};
+use showing::Shown;
+use std::alloc::Global;
+use std::io;
+use std::io::{BufWriter, Write};
+
+// The bytes that are kept before they are written out. They are written once there are more than NEARLY_FULL: no answer is longer than the rest.
+const OUT: usize = 131_072;
+
+const NEARLY_FULL: usize = 98_304;
+
+// The same before a line of a list that is shown: it takes up to 79,000 bytes, folded, and the mark and the answer come behind it.
+const ROOM_FOR_LINE: usize = 16_384;
+
+// The longest answers are results with the state of a DSP: some 10,200 bytes.
+const ANSWER: usize = 16_384;
+
+// How answers are written: whether for people, and whether with the stored state behind each.
+#[derive(Clone, Copy)]
+pub struct Form {
+    pub shown: bool,
+    pub with_state: bool,
+}
+
+// The text of the answer to a line. A `Vec` is a writer as well, but each of its writes goes through a loop, which took a fifth of the time with --state.
+#[derive(Drop)]
+pub struct Text {
+    bytes: Vec<u8>,
+}
+
+impl Write for Text {
+    fn write(&mut self, bytes: &[u8]) -> io::Result<usize> {
+        self.write_all(bytes)?;
+        Ok(bytes.len())
+    }
+
+    #[inline(always)]
+    fn write_all(&mut self, bytes: &[u8]) -> io::Result<()> {
+        self.bytes.extend_from_slice(bytes)?;
+        Ok(())
+    }
+
+    fn flush(&mut self) -> io::Result<()> {
+        Ok(())
+    }
+}
+
+#[derive(Drop)]
+pub struct Answers<W: Write + Drop> {
+    output: BufWriter<W>,
+    // the answer to the line that is read, and the line's number
+    pub answer: Text,
+    number: u64,
+    with_state: bool,
+    // what a list that is shown goes by
+    shown: Option<Shown>,
+    // how many lines could not be read
+    pub bad_lines: u64,
+}
+
+// What a list that is shown goes by: the sequence that a call begins, or the reading of one that has a reading.
+fn show_call(shown: &mut Shown, call: &Call<'_>) {
+    shown.called();
+    match call {
+        Call::Begin(sequence) => shown.begun(shown_sequence(sequence)),
+        Call::Feed(feed) => shown.read(feed.now),
+        Call::Check(now) => shown.read(*now),
+        _ => {}
+    }
+}
+
+fn shown_sequence(sequence: &reading::Sequence) -> showing::tables::Sequence {
+    match sequence {
+        reading::Sequence::Dsp => showing::tables::Sequence::Dsp,
+        reading::Sequence::Avr(_) => showing::tables::Sequence::Avr,
+        reading::Sequence::Pi => showing::tables::Sequence::Pi,
+        reading::Sequence::AvrConfig(_) => showing::tables::Sequence::Settings,
+        reading::Sequence::Disarm => showing::tables::Sequence::Disarm,
+        reading::Sequence::Arm(_) => showing::tables::Sequence::Arm,
+    }
+}
+
+impl<W: Write + Drop> Answers<W> {
+    // Before the first line.
+    pub fn new(alloc: Global, output: W, form: Form) -> Result<Answers<W>, Failure> {
+        let shown = if form.shown { Some(Shown::new()) } else { None };
+        Ok(Answers {
+            output: BufWriter::with_capacity(alloc, OUT, output)?,
+            answer: Text {
+                bytes: Vec::with_capacity(alloc, ANSWER)?,
+            },
+            number: 0,
+            with_state: form.with_state,
+            shown,
+            bad_lines: 0,
+        })
+    }
+
+    pub fn write_out(&mut self) -> io::Result<()> {
+        self.output.flush()
+    }
+
+    fn make_room(&mut self, most: usize) -> io::Result<()> {
+        if most < self.output.buffer().len() {
+            self.write_out()?;
+        }
+        Ok(())
+    }
+
+    // Before a line is answered. The line itself is written if the list is shown; of a longer one than may be its first bytes are.
+    pub fn begin(&mut self, line: Line<'_>) -> io::Result<()> {
+        self.number = line.number;
+        if self.shown.is_some() {
+            self.make_room(ROOM_FOR_LINE)?;
+            let text = line.text;
+            showing::line(&mut self.output, &text[..text.len().min(LINE)])?;
+        }
+        Ok(())
+    }
+
+    // Before the answer to a call.
+    pub fn call(&mut self, call: &Call<'_>) {
+        if let Some(shown) = &mut self.shown {
+            show_call(shown, call);
+        }
+    }
+
+    // Answers a line that can't be read. Below one that is shown the place is marked.
+    pub fn bad(&mut self, line: Line<'_>, bad: &Bad) -> io::Result<()> {
+        self.bad_lines = self.bad_lines.wrapping_add(1);
+        if let Some(shown) = &mut self.shown {
+            shown.unread();
+            showing::mark(&mut self.output, line.text, bad.at)?;
+        }
+        write!(self.answer, "{bad}")?;
+        self.end()
+    }
+
+    // Ends the answer to a line: it stands behind the line's number, or is laid out below the line if the list is shown.
+    pub fn end(&mut self) -> io::Result<()> {
+        match &mut self.shown {
+            Some(shown) => shown.lay(&mut self.output, self.answer.bytes.as_slice())?,
+            None => {
+                let number = self.number;
+                write!(self.output, "{number}: ")?;
+                self.output.write_all(self.answer.bytes.as_slice())?;
+                self.output.write_all(b"\n")?;
+            }
+        }
+        self.answer.bytes.clear();
+        self.make_room(NEARLY_FULL)
+    }
+
+    // Ends the answer of a sequence, with every stored field if they are asked for.
+    pub fn end_in<S: Sequence>(&mut self, running: &S) -> io::Result<()> {
+        if self.with_state {
+            running.state(&mut self.answer)?;
+        }
+        self.end()
+    }
+
+    // After the last line: sums up a list that is shown, and writes out what is left.
+    pub fn finish(&mut self) -> io::Result<()> {
+        if let Some(shown) = &self.shown {
+            shown.sum_up(&mut self.output)?;
+        }
+        self.write_out()
+    }
+}

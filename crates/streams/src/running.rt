@@ -1,0 +1,146 @@
+// The sequences, which answer a list's calls.
+use crate::answers::{Answers, Text};
+use crate::{Failure, List, device_calls};
+use protocol::{Action, Refusal};
+use reading::{Call, Calls, Feed, read_line};
+use sequence::Answer;
+use std::io;
+use std::io::{Read, Write};
+use writing::send;
+
+// A sequence that runs. Each of its calls writes what it answers. Those that it doesn't have are never made.
+pub trait Sequence {
+    // The calls that it has beside `feed`; `None` if no sequence has begun.
+    const CALLS: Option<Calls>;
+
+    fn feed(&mut self, feed: &Feed<'_>, out: &mut Text) -> io::Result<()>;
+
+    fn check(&mut self, _now: u64, _out: &mut Text) -> io::Result<()> {
+        Ok(())
+    }
+
+    fn result(&self, _out: &mut Text) -> io::Result<()> {
+        Ok(())
+    }
+
+    fn take(&mut self, _out: &mut Text) -> io::Result<()> {
+        Ok(())
+    }
+
+    fn retries(&self, _out: &mut Text) -> io::Result<()> {
+        Ok(())
+    }
+
+    // Writes every stored field.
+    fn state(&self, out: &mut Text) -> io::Result<()>;
+}
+
+// The steps that a sequence goes through, by its sequencer.
+pub trait Steps: Sized + Drop {
+    type Sequencer: Copy;
+
+    fn sequencer(&mut self) -> &mut Self::Sequencer;
+
+    // The place of the entry that is awaited, from 0; `None` if none is ever ticked, since the sequence goes back.
+    fn entry(&self) -> Option<usize>;
+
+    // Writes the step's name, with its fields.
+    fn write_step(&self, out: &mut Text) -> io::Result<()>;
+
+    // Begins: writes what is sent, and the step.
+    fn begun(self, outcome: &Result<Option<Action>, Refusal>, out: &mut Text) -> io::Result<Self> {
+        send::sent(out, outcome)?;
+        self.write_step(out)?;
+        Ok(self)
+    }
+
+    // Goes on with what came of a call, and writes it.
+    fn go_on(&mut self, fed: &Answer<Self::Sequencer>, out: &mut Text) -> io::Result<()> {
+        let before = self.entry();
+        *self.sequencer() = fed.seq;
+        send::fed(out, &fed.outcome, ticked(before, self.entry()))?;
+        self.write_step(out)
+    }
+}
+
+// The entry that a call has ticked, from 1, by the places from 0 of those awaited before and after it.
+fn ticked(before: Option<usize>, after: Option<usize>) -> Option<usize> {
+    if before == after {
+        return None;
+    }
+    before.map(|at| at.saturating_add(1))
+}
+
+// Before the first sequence.
+#[derive(Drop)]
+pub struct NotBegun;
+
+impl Sequence for NotBegun {
+    const CALLS: Option<Calls> = None;
+
+    fn feed(&mut self, _feed: &Feed<'_>, _out: &mut Text) -> io::Result<()> {
+        Ok(())
+    }
+
+    fn state(&self, _out: &mut Text) -> io::Result<()> {
+        Ok(())
+    }
+}
+
+// Answers a call that begins no sequence.
+fn answer<S: Sequence, W: Write + Drop>(
+    running: &mut S,
+    call: &Call<'_>,
+    answers: &mut Answers<W>,
+) -> io::Result<()> {
+    let out = &mut answers.answer;
+    match call {
+        Call::Device(call) => {
+            device_calls::answer(out, *call)?;
+            return answers.end();
+        }
+        Call::Feed(feed) => running.feed(feed, out)?,
+        Call::Check(now) => running.check(*now, out)?,
+        Call::Result => running.result(out)?,
+        Call::Take => running.take(out)?,
+        Call::Retries => running.retries(out)?,
+        Call::Begin(_) => {}
+    }
+    answers.end_in(running)
+}
+
+// Answers the calls of a list while this sequence runs, up to that which begins the next one, which is to be answered, or the end of the list.
+pub fn run<S: Sequence + Drop, R: Read + Drop, W: Write + Drop>(
+    mut running: S,
+    list: &mut List<R, W>,
+) -> Result<Option<reading::Sequence>, Failure> {
+    // The calls are counted down, as reads are.
+    for _ in 0..u64::MAX {
+        let Some(line) = list.lines.next(&mut list.answers)? else {
+            return Ok(None);
+        };
+        list.answers.begin(line)?;
+        let read = read_line(line.text, S::CALLS, &mut list.lent);
+        match &read {
+            Ok(Some(call)) => {
+                list.answers.call(call);
+                if let Call::Begin(next) = call {
+                    return Ok(Some(*next));
+                }
+                answer(&mut running, call, &mut list.answers)?;
+            }
+            Ok(None) => {}
+            Err(bad) => list.answers.bad(line, bad)?,
+        }
+    }
+    Ok(None)
+}
+
+// The same of a sequence whose beginning is answered but for the end of the answer.
+pub fn begin<S: Sequence + Drop, R: Read + Drop, W: Write + Drop>(
+    running: S,
+    list: &mut List<R, W>,
+) -> Result<Option<reading::Sequence>, Failure> {
+    list.answers.end_in(&running)?;
+    run(running, list)
+}
