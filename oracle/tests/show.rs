@@ -380,27 +380,22 @@ fn generated_lists() {
 #[test]
 fn papers_and_tables_agree() {
     let source = repository("crates/showing/src/tables.rt");
-    let table = |name: &str| -> String {
-        let (_, rest) = source.split_once(&format!("pub const {name}: ")).unwrap();
-        let (_, rest) = rest.split_once("*b\"").unwrap();
-        let (text, _) = rest.split_once("\";").unwrap();
-        text.split("\\\n").map(str::trim_start).collect()
-    };
-    let rows = |text: &str| -> Vec<(String, String)> {
-        let rows = text
-            .split_terminator('|')
-            .map(|row| row.split_once(':').unwrap());
-        rows.map(|(key, words)| (key.to_string(), words.to_string()))
+    // The rows of a table, each of two texts.
+    let rows = |name: &str| -> Vec<(String, String)> {
+        let (_, rest) = source.split_once(&format!("\nconst {name}: ")).unwrap();
+        let (table, _) = rest.split_once("\n];").unwrap();
+        let texts: Vec<&str> = table.split('"').skip(1).step_by(2).collect();
+        let rows = texts.chunks(2);
+        rows.map(|row| (row[0].to_string(), row[1].to_string()))
             .collect()
     };
-    assert_eq!(rows(&table("REFUSALS")), papers::refusals());
-    let sequences = table("SEQUENCES");
-    let sequences: Vec<&str> = sequences.split_terminator(';').skip(1).collect();
+    assert_eq!(rows("REFUSALS"), papers::refusals());
+    let sequences = ["DSP", "AVR", "PI", "SETTINGS", "DISARM", "ARM"];
     assert_eq!(sequences.len(), Which::ALL.len());
-    for (text, which) in sequences.iter().zip(Which::ALL) {
-        let found = rows(text);
-        let [_, steps @ .., done] = &found[..] else {
-            panic!("{text}");
+    for (name, which) in sequences.iter().zip(Which::ALL) {
+        let found = rows(name);
+        let [steps @ .., done] = &found[..] else {
+            panic!("{name}");
         };
         assert_eq!(steps, papers::steps(which), "{which:?}");
         assert_eq!(done, &("Done".to_string(), String::new()));
