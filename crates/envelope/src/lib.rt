@@ -30,34 +30,34 @@ pub struct Envelope<'a> {
     pub payload: &'a [u8],
 }
 
-pub fn disarm(seq: DisarmSequencer, env: Envelope) -> Answer<DisarmSequencer>
-    ensures { result ≡ disarms.fed_to seq (lent env.entry) }
+pub fn disarm(disarm: DisarmSequencer, env: Envelope) -> Answer<DisarmSequencer>
+    ensures { result ≡ disarms.fed_to disarm (lent env.entry) }
 {
-    seq.feed(env.src, env.type_id, env.message, env.text, env.payload)
+    disarm.feed(env.src, env.type_id, env.message, env.text, env.payload)
 }
 
-pub fn arm(seq: ArmSequencer, env: Envelope) -> Answer<ArmSequencer>
-    ensures { result ≡ arms.fed_to seq (lent env.entry) }
+pub fn arm(arm: ArmSequencer, env: Envelope) -> Answer<ArmSequencer>
+    ensures { result ≡ arms.fed_to arm (lent env.entry) }
 {
-    seq.feed(env.src, env.type_id, env.message, env.text, env.payload)
+    arm.feed(env.src, env.type_id, env.message, env.text, env.payload)
 }
 
-pub fn avr_config(seq: AvrConfigSequencer, env: Envelope) -> Answer<AvrConfigSequencer>
-    ensures { result ≡ configs.fed_to seq (lent env.entry) }
+pub fn avr_config(run: AvrConfigSequencer, env: Envelope) -> Answer<AvrConfigSequencer>
+    ensures { result ≡ configs.fed_to run (lent env.entry) }
 {
-    seq.feed(env.src, env.type_id, env.message, env.text, env.payload)
+    run.feed(env.src, env.type_id, env.message, env.text, env.payload)
 }
 
-pub fn pi(seq: PiSequencer, env: Envelope) -> Answer<PiSequencer>
-    ensures { result ≡ pis.fed_to seq (lent env.entry) }
+pub fn pi(pi: PiSequencer, env: Envelope) -> Answer<PiSequencer>
+    ensures { result ≡ pis.fed_to pi (lent env.entry) }
 {
-    seq.feed(env.src, env.type_id, env.message, env.text, env.payload)
+    pi.feed(env.src, env.type_id, env.message, env.text, env.payload)
 }
 
-pub fn dsp(seq: DspSequencer, env: Envelope, now: u64) -> Answer<DspSequencer>
-    ensures { result ≡ dsps.fed_to seq (lent env.entry) now }
+pub fn dsp(dsp: DspSequencer, env: Envelope, now: u64) -> Answer<DspSequencer>
+    ensures { result ≡ dsps.fed_to dsp (lent env.entry) now }
 {
-    seq.feed(
+    dsp.feed(
         env.src,
         env.type_id,
         env.message,
@@ -68,10 +68,10 @@ pub fn dsp(seq: DspSequencer, env: Envelope, now: u64) -> Answer<DspSequencer>
     )
 }
 
-pub fn avr(seq: AvrSequencer, env: Envelope, now: u64, wall: u64) -> Answer<AvrSequencer>
-    ensures { result ≡ avrs.fed_to seq (record { envelope = lent env.entry; wall = wall }) now }
+pub fn avr(avr: AvrSequencer, env: Envelope, now: u64, wall: u64) -> Answer<AvrSequencer>
+    ensures { result ≡ avrs.fed_to avr (record { envelope = lent env.entry; wall = wall }) now }
 {
-    seq.feed(
+    avr.feed(
         env.src,
         env.type_id,
         env.message,
