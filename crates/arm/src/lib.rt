@@ -69,6 +69,7 @@ impl ArmSequencer {
         )
     }
 
+    // Numbers and slices one by one, as the scope has it; the struct that refers to them is crate envelope's.
     pub fn feed(
         self,
         src: BusAddr,

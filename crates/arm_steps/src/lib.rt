@@ -22,6 +22,7 @@ pub enum ArmStep {
     Done,
 }
 
+// What an envelope does. It is no `Moved`, since what is to be counted belongs to it.
 #[derive(Clone, Copy)]
 pub struct ArmMoved {
     pub action: Option<Action>,
@@ -102,10 +103,11 @@ fn wait_pi_and_armed(got_pi: bool, got_armed: bool, message: Message, text: &[u8
     no_send(ArmStep::WaitPiAndArmed { got_pi, got_armed })
 }
 
-// A feed to which neither refusal 1 nor 2 applies.
+// A feed to which neither refusal 1 nor 2 applies; its parameters one by one, as the sequencer's feed has them.
 pub fn feed(step: ArmStep, wait_pi: bool, src: BusAddr, message: Message, text: &[u8]) -> ArmMoved
     ensures { result ≡ moved_at step wait_pi (plain src message text.now) }
 {
+    // a `match`, and no closure kept for the step: a host holds the step as a number, and each takes arguments of its own
     match step {
         ArmStep::WaitDspStatus => {
             if let (BusAddr::Dsp, Message::DspStatus(_)) = (src, message) {

@@ -51,7 +51,8 @@ impl From<AvrReplies> for AvrSync {
     }
 }
 
-// An accepted feed or check.
+// An accepted call's answer, `now` being its reading. Each sequencer with a clock has this of its own: a `Timed<S>` for both could have
+// no methods in their crates.
 fn accepted(moved: Moved<AvrState>, now: u64) -> Answer<AvrSequencer>
     ensures { result ≡ accepted moved now }
 {
@@ -80,6 +81,7 @@ impl AvrSequencer {
         Answer::accepted(Some(status_poll(false, BusAddr::Avr)), seq)
     }
 
+    // Numbers and slices one by one, as the scope has it; the struct that refers to them is crate envelope's.
     pub fn feed(
         self,
         src: BusAddr,

@@ -42,6 +42,7 @@ impl AvrConfigSequencer {
     }
 
     // Only what comes from the AVR is looked at.
+    // Numbers and slices one by one, as the scope has it; the struct that refers to them is crate envelope's.
     pub fn feed(
         self,
         src: BusAddr,

@@ -1,7 +1,7 @@
--- The rows at a step: when none is ticked, and what no row looks at.
+-- The rows at a step: when it is ticked, and what no row looks at.
 -- Assumes nothing.
 use mathlib.Core.Path.{◌≡◌, refl, sym, ap}
-use mathlib.Core.Bool.{false}
+use mathlib.Core.Bool.{true, false, true≢false}
 use mathlib.Core.List.{[]}
 use lib.Dec.{eqb}
 use Rattle.protocol.specs.Addr.{byte_of}
@@ -12,11 +12,22 @@ use Rattle.settings.specs.declared.AvrSettings.{AvrSettings}
 use Rattle.avr_config_steps.specs.declared.AvrConfigStep.{AvrConfigStep}
 use Rattle.avr_config_steps.specs.declared.AvrConfigStep.TheVariants.{WaitInitGateAck, WaitParamAck, WaitParamCommitAck, WaitModeEcho, WaitModeCommitAck, WaitRadarCalEcho, WaitRadarCalCommitAck, Done}
 use Rattle.avr_config_steps.specs.Table.{row, next}
-use Rattle.avr_config_steps.specs.Answers.{view, made, advance}
+use Rattle.avr_config_steps.specs.Answers.{view, made, advance, goes}
 
 -- an envelope that the row doesn't name changes nothing
 pub idles : (q : AvrSettings) (k : AvrConfigStep) (e : Envelope) → (row q k).reply e ≡ false → idle k ≡ advance q k (fed e 0)
 idles q k e h = ap made (sym (at_idles (row q k) (next q k) (row q (next q k)) (view k) (fed e 0) h))
+
+-- one that it names leads on to the next step, with that step's request
+pub ticks : (q : AvrSettings) (k : AvrConfigStep) (e : Envelope) → (row q k).reply e ≡ true → goes q (next q k) ≡ advance q k (fed e 0)
+ticks q WaitInitGateAck e h = rw h
+ticks q (WaitParamAck i) e h = rw h
+ticks q (WaitParamCommitAck i) e h = rw h
+ticks q WaitModeEcho e h = rw h
+ticks q WaitModeCommitAck e h = rw h
+ticks q WaitRadarCalEcho e h = rw h
+ticks q WaitRadarCalCommitAck e h = rw h
+ticks q Done e h = absurd (true≢false (sym h))
 
 -- no row has a reply from another device
 pub foreign : (q : AvrSettings) (k : AvrConfigStep) (e : Envelope) → eqb (byte_of e.src) 0x30 ≡ false → (row q k).reply e ≡ false

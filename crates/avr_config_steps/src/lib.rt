@@ -86,6 +86,7 @@ fn send_radar_cal(settings: AvrSettings) -> Moved<AvrConfigStep>
 pub fn feed(settings: AvrSettings, step: AvrConfigStep, message: Message) -> Moved<AvrConfigStep>
     ensures { result ≡ advance settings step (fed (plain BusAddr.Avr message []) 0) }
 {
+    // a `match`, and no closure kept for the step: a host holds the step as a number
     match (step, message) {
         (AvrConfigStep::WaitInitGateAck, Message::ConfigAck(_)) => send_param(settings, 0),
         (AvrConfigStep::WaitParamAck { param_idx }, Message::ConfigAck(_)) => {

@@ -62,7 +62,7 @@ impl AvrState {
         }
     }
 
-    // The step begins, with its request.
+    // A step begins. Each crate of steps has this of its own, since the state that it makes has fields of its own.
     fn moved(self, step: AvrStep, replies: AvrReplies, wall: u64) -> Moved<AvrState>
         ensures { result ≡ record { action = request step wall; state = record { step = step; model = self.model; replies = replies; cal_deadline = self.cal_deadline; repoll_at = self.repoll_at } } }
     {
@@ -117,12 +117,8 @@ impl AvrState {
         let Message::DevInfoResp = message else {
             return Moved::idle(self);
         };
-        let dev_info = DevInfoResp {
-            text: Stored::from_slice(text),
-            payload: Stored::from_slice(payload),
-        };
         let replies = AvrReplies {
-            dev_info: Some(dev_info),
+            dev_info: Some(DevInfoResp::from_slices(text, payload)),
             ..self.replies
         };
         self.moved(step, replies, 0)
@@ -164,6 +160,8 @@ impl AvrState {
         state.moved(step, replies, 0)
     }
 
+    // This, `wait_if_cal` and `wait_avr_config` store each its own record in its own field, and go on each its own way: one for the three
+    // would take all of that as arguments.
     fn wait_factory_cal(self, message: Message, payload: &[u8], now: u64) -> Moved<AvrState>
         ensures { result ≡ arm_at (row self.model AvrStep.WaitFactoryCal) AvrStep.WaitIfCal (row self.model AvrStep.WaitIfCal) self (sent 0 message [] [] payload.now now 0) }
     {
@@ -237,6 +235,7 @@ impl AvrState {
 
     // ---- an accepted envelope from the AVR, an accepted check
 
+    // One by one, as the sequencer's feed has them.
     pub fn feed(
         self,
         type_id: u8,
@@ -249,6 +248,7 @@ impl AvrState {
     ) -> Moved<AvrState>
         ensures { result ≡ answered self (sent type_id message params text.now payload.now now wall) }
     {
+        // a `match`, and no closure kept for the step: a host holds the step as a number, and each takes arguments of its own
         match self.step {
             AvrStep::WaitStatus1 => self.wait_status(AvrStep::WaitStatus2, message, now),
             AvrStep::WaitStatus2 => self.wait_status(AvrStep::WaitDevInfo1, message, now),
@@ -277,6 +277,7 @@ impl AvrState {
         if !reached(self.cal_deadline, now) {
             return Moved::idle(self);
         }
+        // as in `feed`, no closure for the step
         match self.step {
             AvrStep::WaitFactoryCal => self.to_cal(AvrStep::WaitIfCal, self.replies, now),
             AvrStep::WaitIfCal => self.after_if_cal(self.replies),

@@ -9,8 +9,8 @@ use native.Mathlib.Nat.{not-suc-le-zero}
 use native.Mathlib.Decide.{dec_le, ℕ_discrete}
 use native.Mathlib.Omega.{arith}
 use lib.Dec.{eqb}
-use Rattle.std.specs.List.{starts_with}
-use lib.ListN.{length, take, drop, length-take, length-drop}
+use Rattle.std.specs.List.{starts_with, list_any, range_with_len}
+use lib.ListN.{length, take, length-take, length-drop}
 use borrow.Author.Tests.{eq-eqb, eqb-true}
 use Rattle.device.specs.Search.{StandsAt, Stands, same, stands_at, any_below, contains}
 
@@ -72,6 +72,27 @@ any_some (suc n) p h = go (any_some n p) (p n) refl h
         → (i : ℕ) × (i < suc n) × (p i ≡ true)
     go ih true q e = (n, omega arith, q)
     go ih false q e = let w = ih e in (w.0, omega (arith, w.1), w.2)
+
+-- the same over the numbers in their order, lowest first
+swapped : (a b c : Bool) → a || (b || c) ≡ b || (a || c)
+swapped true true c = refl
+swapped true false c = refl
+swapped false true c = refl
+swapped false false c = refl
+
+any_next : (n : ℕ) (p : ℕ → Bool) → any_below (suc n) p ≡ p 0 || any_below n (λ i. p (suc i))
+any_next zero p = refl
+any_next (suc n) p = rw (any_next n p) (swapped (p (suc n)) (p 0) (any_below n (λ i. p (suc i))))
+
+shifted : (a n : ℕ) (p : ℕ → Bool) → list_any p (range_with_len (a + 1) n) ≡ list_any (λ i. p (suc i)) (range_with_len a n)
+shifted a zero p = refl
+shifted a (suc n) p =
+    let one : a + 1 ≡ suc a = omega arith in
+    rw (shifted (a + 1) n p) (ap (λ j. p j || list_any (λ i. p (suc i)) (range_with_len (a + 1) n)) one)
+
+pub any_in_range : (n : ℕ) (p : ℕ → Bool) → list_any p (range_with_len 0 n) ≡ any_below n p
+any_in_range zero p = refl
+any_in_range (suc n) p = rw (shifted 0 n p, any_in_range n (λ i. p (suc i))) (sym (any_next n p))
 
 -- ---- a place
 

@@ -64,6 +64,7 @@ impl DisarmSequencer {
     fn advance(self, src: BusAddr, message: Message, text: &[u8]) -> Answer<DisarmSequencer>
         ensures { result ≡ advance self (fed (plain src message text.now) 0) }
     {
+        // a `match`, and no closure kept for the step: a host holds the step as a number, and each takes arguments of its own
         match self.step {
             DisarmStep::WaitAck => self.wait_ack(src, message),
             DisarmStep::WaitModeReset => {
@@ -89,6 +90,7 @@ impl DisarmSequencer {
         )
     }
 
+    // Numbers and slices one by one, as the scope has it; the struct that refers to them is crate envelope's.
     pub fn feed(
         self,
         src: BusAddr,

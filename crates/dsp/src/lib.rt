@@ -26,7 +26,7 @@ pub struct DspSequencer {
 #[derive(Clone, Copy)]
 pub struct DspSync {
     pub status: DspStatus,
-    // of a V46 status
+    // of a V46 status, beside it, as it is lent beside a message
     pub status_payload: Stored,
     // none when the DSP query is rejected or goes unanswered
     pub hw_info: Option<DspQueryResp>,
@@ -64,7 +64,8 @@ impl From<DspReplies> for DspSync {
     }
 }
 
-// An accepted call's answer, `now` being its reading.
+// An accepted call's answer, `now` being its reading. Each sequencer with a clock has this of its own: a `Timed<S>` for both could have
+// no methods in their crates.
 fn accepted(moved: Moved<DspState>, now: u64) -> Answer<DspSequencer>
     ensures { result ≡ accepted moved now }
 {
@@ -86,6 +87,7 @@ impl DspSequencer {
         Answer::accepted(Some(status_poll(false, BusAddr::Dsp)), seq)
     }
 
+    // Numbers and slices one by one, as the scope has it; the struct that refers to them is crate envelope's.
     pub fn feed(
         self,
         src: BusAddr,

@@ -2,26 +2,17 @@
 -- Assumes nothing.
 use mathlib.Core.Path.{◌≡◌, refl, sym, ap}
 use mathlib.Core.Bool.{true, false}
-use mathlib.Core.List.{[], ◌∷◌}
-use Prim.Native.Nat.{ℕ, zero, suc, ◌+◌, ◌<◌}
-use native.Mathlib.Omega.{arith}
 use lib.Dec.{eqb}
-use lib.ListN.{set}
-use types.Run.{OneOf, miss}
-use denote.Enum.Declared as Declared
 use Rattle.protocol.specs.Addr.{byte_of}
 use Rattle.device.specs.declared.model.DeviceModel.{DeviceModel}
-use Rattle.sequence.specs.Events.{Envelope, Event, forever}
+use Rattle.sequence.specs.Events.{Envelope, Event}
 use Rattle.sequence.specs.Rows.{idle, ticked, passes}
 use Rattle.sequence.proofs.Arms.{at_ticks, at_idles}
 use Rattle.dsp_table.specs.declared.DspStep.{DspStep}
 use Rattle.dsp_table.specs.declared.DspStep.TheVariants.{WaitStatus, WaitDspQuery, WaitDevInfo, WaitProdInfo0, WaitProdInfo1, WaitProdInfo2, WaitConfig, WaitPowerMode, Done}
 use Rattle.dsp_steps.specs.declared.DspState.{DspState}
-use Rattle.dsp_table.specs.declared.DspReplies.{DspReplies}
-use Rattle.dsp_table.specs.Stores.{store, prod_info_in}
 use Rattle.dsp_table.specs.Table.{DspRow, row, next}
 use Rattle.dsp_steps.specs.Answers.{view, made, advance, arm_at}
-use Rattle.dsp_table.specs.contracts.DspStep as step
 
 -- the row at the step decides
 pub at_step : (m : DeviceModel) (s : DspState) (e : Event Envelope) (k : DspStep) → s.step ≡ k
@@ -37,35 +28,6 @@ idles r k r' s e h = ap made (sym (at_idles r k r' (view s) e h))
 pub ticks : (r : DspRow) (k : DspStep) (r' : DspRow) (s : DspState) (e : Event Envelope) → passes r s.deadline e ≡ true
     → made (ticked r k r' (view s) e) ≡ arm_at r k r' s e
 ticks r k r' s e h = ap made (sym (at_ticks r k r' (view s) e h))
-
--- only two rows wait
-pub no_wait : (m : DeviceModel) (k : DspStep) → OneOf (0 ∷ 2 ∷ 3 ∷ 4 ∷ 5 ∷ 6 ∷ 8 ∷ []) (Declared.tag_of step.the_type k) → (row m k).wait ≡ forever
-no_wait m WaitStatus h = refl
-no_wait m WaitDspQuery h = absurd (miss (0 ∷ 2 ∷ 3 ∷ 4 ∷ 5 ∷ 6 ∷ 8 ∷ []) 1 tt h)
-no_wait m WaitDevInfo h = refl
-no_wait m WaitProdInfo0 h = refl
-no_wait m WaitProdInfo1 h = refl
-no_wait m WaitProdInfo2 h = refl
-no_wait m WaitConfig h = refl
-no_wait m WaitPowerMode h = absurd (miss (0 ∷ 2 ∷ 3 ∷ 4 ∷ 5 ∷ 6 ∷ 8 ∷ []) 7 tt h)
-no_wait m Done h = refl
-
--- entries 4 to 6 store a product info, each in its own place
-pub stores_prod_info : (i : ℕ) (e : Event Envelope) (y : DspReplies) → i < 3
-    → store (4 + i) e y
-    ≡ record {
-      status = y.status;
-      hw_info = y.hw_info;
-      dev_info = y.dev_info;
-      prod_info = set y.prod_info i (prod_info_in e);
-      config = y.config;
-      refused = y.refused;
-      power_mode_unanswered = y.power_mode_unanswered;
-    }
-stores_prod_info zero e y h = refl
-stores_prod_info (suc zero) e y h = refl
-stores_prod_info (suc (suc zero)) e y h = refl
-stores_prod_info (suc (suc (suc i))) e y h = absurd (omega arith)
 
 -- no row has a reply from another device
 pub foreign : (m : DeviceModel) (k : DspStep) (e : Envelope) → eqb (byte_of e.src) 0x40 ≡ false → (row m k).reply e ≡ false

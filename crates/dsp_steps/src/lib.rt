@@ -47,7 +47,7 @@ fn status_reply(status: DspStatus, payload: &[u8]) -> DspStatusReply
 
 // ---- an envelope from the DSP, by step
 
-// A step begins.
+// A step begins. Each crate of steps has this of its own, since the state that it makes has fields of its own.
 fn moved(step: DspStep, replies: DspReplies, deadline: Option<u64>) -> Moved<DspState>
     ensures { result ≡ record { action = request step; state = record { step = step; replies = replies; deadline = deadline } } }
 {
@@ -131,12 +131,8 @@ impl DspState {
         let Message::DevInfoResp = message else {
             return Moved::idle(self);
         };
-        let dev_info = DevInfoResp {
-            text: Stored::from_slice(text),
-            payload: Stored::from_slice(payload),
-        };
         let replies = DspReplies {
-            dev_info: Some(dev_info),
+            dev_info: Some(DevInfoResp::from_slices(text, payload)),
             ..self.replies
         };
         moved(DspStep::WaitProdInfo0, replies, self.deadline)
@@ -205,6 +201,7 @@ impl DspState {
 
     // ---- an accepted envelope from the DSP, an accepted check
 
+    // One by one, as the sequencer's feed has them.
     pub fn feed(
         self,
         type_id: u8,
@@ -216,6 +213,7 @@ impl DspState {
     ) -> Moved<DspState>
         ensures { result ≡ answered self (sent type_id message params text.now payload.now now) }
     {
+        // a `match`, and no closure kept for the step: a host holds the step as a number, and each takes arguments of its own
         match self.step {
             DspStep::WaitStatus => self.wait_status(message, payload, now),
             DspStep::WaitDspQuery => self.wait_dsp_query(message),
@@ -235,6 +233,7 @@ impl DspState {
         if !reached(self.deadline, now) {
             return Moved::idle(self);
         }
+        // as in `feed`, no closure for the step
         match self.step {
             DspStep::WaitDspQuery => waited(DspStep::WaitDevInfo, self.replies),
             DspStep::WaitPowerMode => {

@@ -55,6 +55,7 @@ pub struct DspReplies {
     pub status: Option<DspStatusReply>,
     pub hw_info: Option<DspQueryResp>,
     pub dev_info: Option<DevInfoResp>,
+    // an array and no `Vec`, since memory is fixed: the step says how many have come
     pub prod_info: [ProdInfoResp; 3],
     pub config: Option<ConfigResp>,
     // the nack that ended the power-mode write, not yet taken

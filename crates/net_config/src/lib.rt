@@ -11,12 +11,9 @@ use protocol::Stored;
 fn first_zero(text: &[u8]) -> usize
     ensures { result ≡ first_zero text.now }
 {
-    for i in 0..text.len() {
-        if text[i] == 0 {
-            return i;
-        }
-    }
-    text.len()
+    text.iter()
+        .position(|byte| *byte == 0)
+        .unwrap_or(text.len())
 }
 
 // The part before the first zero byte.

@@ -57,7 +57,7 @@ impl From<PiReplies> for PiSync {
 
 // ---- an envelope from the Pi, by step
 
-// A step begins.
+// A step begins. Each crate of steps has this of its own, since the state that it makes has fields of its own.
 fn moved(step: PiStep, replies: PiReplies) -> Answer<PiSequencer>
     ensures { result ≡ record { outcome = Ok (request step); seq = record { step = step; replies = replies } } }
 {
@@ -71,14 +71,10 @@ impl PiSequencer {
         let Message::DevInfoResp = message else {
             return Answer::accepted(None, self);
         };
-        let dev_info = DevInfoResp {
-            text: Stored::from_slice(text),
-            payload: Stored::from_slice(payload),
-        };
         moved(
             PiStep::WaitParam0A,
             PiReplies {
-                dev_info: Some(dev_info),
+                dev_info: Some(DevInfoResp::from_slices(text, payload)),
                 ..self.replies
             },
         )
@@ -127,6 +123,7 @@ impl PiSequencer {
         }
     }
 
+    // One by one, as `feed` has them.
     fn feed_pi(
         self,
         type_id: u8,
@@ -136,6 +133,7 @@ impl PiSequencer {
     ) -> Answer<PiSequencer>
         ensures { result ≡ advance self (sent type_id message text.now payload.now) }
     {
+        // a `match`, and no closure kept for the step: a host holds the step as a number, and each takes arguments of its own
         match self.step {
             PiStep::WaitStatus => {
                 if let Message::PiStatus = message {
@@ -174,6 +172,7 @@ impl PiSequencer {
         moved(PiStep::WaitStatus, no_replies())
     }
 
+    // Numbers and slices one by one, as the scope has it; the struct that refers to them is crate envelope's.
     pub fn feed(
         self,
         src: BusAddr,

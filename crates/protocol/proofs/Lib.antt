@@ -1,4 +1,2 @@
-pub mod Arms
 pub mod Numbers
 pub mod StoredBytes
-pub mod Filled

@@ -8,11 +8,6 @@ impl BusAddr {
     pub fn as_byte(self) -> u8
         ensures { result ≡ byte_of self }
     {
-        match self {
-            BusAddr::App => 0x10,
-            BusAddr::Pi => 0x12,
-            BusAddr::Avr => 0x30,
-            BusAddr::Dsp => 0x40,
-        }
+        self as u8
     }
 }

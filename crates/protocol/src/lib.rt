@@ -10,23 +10,23 @@ mod number;
 mod status;
 mod store;
 
-// ---- bus addresses of the unit's internal network (src/addr.rs)
+// ---- bus addresses of the unit's internal network (src/addr.rs), each with its byte
 
 #[derive(Clone, Copy, PartialEq, Eq)]
 pub enum BusAddr {
     // the client application
-    App,
+    App = 0x10,
     // the camera's Raspberry Pi
-    Pi,
+    Pi = 0x12,
     // the AVR microcontroller (radar I/O, battery)
-    Avr,
+    Avr = 0x30,
     // the digital signal processor (radar core)
-    Dsp,
+    Dsp = 0x40,
 }
 
 // ---- the bytes that a reply stores, for the Rust's `String` and `Vec<u8>`
 
-// The first `len` of `bytes`; the bytes after them are 0.
+// The first `len` of `bytes`; the bytes after them are 0. No `Vec`: a reply is stored without a heap, and C holds it by value.
 #[repr(C)]
 #[derive(Clone, Copy)]
 pub struct Stored {
@@ -34,17 +34,17 @@ pub struct Stored {
     pub len: usize,
 }
 
-// ---- why a call is refused
+// ---- why a call is refused, each with its number
 
 #[derive(Clone, Copy, PartialEq, Eq)]
 pub enum Refusal {
-    TextTooLong,
-    PayloadTooLong,
-    ReadingTooLarge,
-    TooManyParams,
-    ReadingBelowLast,
-    NotDone,
-    RetriesFull,
+    TextTooLong = 1,
+    PayloadTooLong = 2,
+    ReadingTooLarge = 3,
+    TooManyParams = 4,
+    ReadingBelowLast = 11,
+    NotDone = 12,
+    RetriesFull = 13,
 }
 
 // ---- status and acknowledgement records (src/protocol/status.rs)
@@ -57,7 +57,7 @@ pub struct StatusPoll {
 }
 
 #[repr(C)]
-#[derive(Clone, Copy)]
+#[derive(Clone, Copy, Default)]
 pub struct AvrStatus {
     pub version: u8,
     // 0 idle, 1 armed, 2 arming, 3 tracking
@@ -72,7 +72,7 @@ pub struct AvrStatus {
 
 // The Mevo+'s layout (version 0x80).
 #[repr(C)]
-#[derive(Clone, Copy)]
+#[derive(Clone, Copy, Default)]
 pub struct DspStatus80 {
     pub state: u8,
     pub input_voltage_usb: i16,
@@ -236,7 +236,7 @@ pub struct TimeSync {
 // ---- the camera's configuration (src/protocol/camera.rs)
 
 #[repr(C)]
-#[derive(Clone, Copy)]
+#[derive(Clone, Copy, Default)]
 pub struct CamConfig {
     pub dynamic_config: bool,
     pub resolution_width: i16,

@@ -2,7 +2,7 @@
 ghost use Rattle.std.specs.Prelude.{◌≡◌, []};
 ghost use Rattle.protocol.specs.Stored.{stored, content};
 
-use crate::Stored;
+use crate::{DevInfoResp, Stored};
 
 impl Stored {
     #[tactic(auto, unfolding(crate::specs::Stored::stored))]
@@ -30,5 +30,17 @@ impl Stored {
         ensures { result.now ≡ content self.now }
     {
         &self.bytes[..self.len.min(256)]
+    }
+}
+
+impl DevInfoResp {
+    // What is stored of a device info that comes with these bytes.
+    pub fn from_slices(text: &[u8], payload: &[u8]) -> DevInfoResp
+        ensures { result ≡ record { text = stored text.now; payload = stored payload.now } }
+    {
+        DevInfoResp {
+            text: Stored::from_slice(text),
+            payload: Stored::from_slice(payload),
+        }
     }
 }

@@ -9,6 +9,7 @@ use protocol::{ParamData, ParamValue, RadarCal};
 // The most parameters of a settings list.
 pub const MAX_PARAMS: usize = 32;
 
+// No `Vec` of parameters: a run holds its settings without a heap, and C holds the run by value.
 #[derive(Clone, Copy)]
 pub struct AvrSettings {
     // detection mode
@@ -83,10 +84,7 @@ impl From<MevoSettings> for AvrSettings {
 
     fn from(settings: MevoSettings) -> AvrSettings {
         let mut params = [NO_PARAM; 32];
-        let set = settings.params();
-        params[0] = set[0];
-        params[1] = set[1];
-        params[2] = set[2];
+        params[..3].copy_from_slice(&settings.params());
         AvrSettings {
             mode: settings.mode,
             params,
