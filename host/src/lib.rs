@@ -46,6 +46,8 @@ mod settings;
 mod steps;
 
 #[cfg(test)]
+mod handed_back;
+#[cfg(test)]
 mod unknown_numbers;
 
 pub use addr::BusAddr;

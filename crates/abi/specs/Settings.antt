@@ -2,19 +2,19 @@
 -- the way out; on the way in what stands there is not looked at. Definitions only.
 -- Assumes nothing.
 use Rattle.std.specs.Prelude.{true, false, Option, Some, None, Result, Ok, List, [], ◌∷◌, map}
+use Rattle.std.specs.Bool.{then_some}
 use Rattle.protocol.specs.declared.ParamValue.{ParamValue}
 use Rattle.protocol.specs.declared.RadarCal.{RadarCal}
 use Rattle.settings.specs.declared.AvrSettings.{AvrSettings}
 use Rattle.abi_values.specs.declared.CParamValue.{CParamValue}
 use Rattle.abi_values.specs.declared.UnknownNumber.{UnknownNumber}
 use Rattle.abi_values.specs.Numbers.{and_then}
-use Rattle.abi_values.specs.Options.{present}
 use Rattle.abi_values.specs.Params.{param_in, param_out}
 use Rattle.abi.specs.declared.config.COptionRadarCal.{COptionRadarCal}
 use Rattle.abi.specs.declared.config.CSettings.{CSettings}
 
 abbrev pub radar_cal_in : COptionRadarCal → Option RadarCal
-radar_cal_in c = present c.some c.value
+radar_cal_in c = then_some c.some c.value
 
 abbrev pub radar_cal_out : Option RadarCal → COptionRadarCal
 radar_cal_out (Some c) = record { some = true; value = c }

@@ -6,9 +6,9 @@ ghost use Rattle.abi.specs.Actions.{command_out, action_out, nothing, numbers};
 use abi_values::CParamValue;
 use protocol::{Action, BusAddr, Command};
 
-// A command by its place in the enum, and its numbers: `flag` is pi_mode, arm or query_password; `byte` is the mode, a parameter's id, a
-// height, a sub query, a sub command, a session or a bus address; `acked_cmd` that of an acknowledgement; `wide` a range or an epoch;
-// `param` a `ParamValue`. What a command has not is 0.
+// A command by its place in the enum, since C takes none, and its numbers: `flag` is pi_mode, arm or query_password; `byte` is the mode, a
+// parameter's id, a height, a sub query, a sub command, a session or a bus address; `acked_cmd` that of an acknowledgement; `wide` a range
+// or an epoch; `param` a `ParamValue`. What a command has not is 0.
 #[repr(C)]
 #[derive(Clone, Copy)]
 pub struct CCommand {
@@ -20,7 +20,7 @@ pub struct CCommand {
     pub param: CParamValue,
 }
 
-// One send or none. Of none each number is 0, and the device the app.
+// One send or none: C takes no `Option`. Of none each number is 0, and the device the app.
 #[repr(C)]
 #[derive(Clone, Copy)]
 pub struct CAction {
@@ -31,6 +31,7 @@ pub struct CAction {
     pub tail: [u8; 2],
 }
 
+// The numbers in a row: with the names of the fields each arm below would be four lines.
 fn numbers(number: u8, flag: bool, byte: u8, acked_cmd: u8, wide: u32) -> CCommand
     ensures { result ≡ numbers number flag byte acked_cmd wide }
 {
@@ -99,6 +100,7 @@ impl From<Option<Action>> for CAction {
         let Some(action) = action else {
             return CAction::none();
         };
+        // By a variable: the borrow checker refuses this field, which is an array, straight in the literal.
         let payload = action.payload;
         let tail = action.tail;
         CAction {

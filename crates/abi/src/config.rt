@@ -6,6 +6,7 @@ use abi_values::{CParamValue, UnknownNumber};
 use protocol::{ParamValue, RadarCal};
 use settings::AvrSettings;
 
+// C takes no `Option`.
 #[repr(C)]
 #[derive(Clone, Copy)]
 pub struct COptionRadarCal {
@@ -13,7 +14,8 @@ pub struct COptionRadarCal {
     pub value: RadarCal,
 }
 
-// The format of each of the 32 places is looked at: a host leaves those past `len` 0.
+// An array and a count, and no `Vec`: a host holds it by value, and C lays it out. The format of each of the 32 places is looked at: a
+// host leaves those past `len` 0.
 #[repr(C)]
 #[derive(Clone, Copy)]
 pub struct CSettings {

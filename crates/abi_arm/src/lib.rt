@@ -8,7 +8,7 @@ use abi_values::UnknownNumber;
 use arm::ArmSequencer;
 use arm_steps::ArmStep;
 
-// `got_pi` and `got_armed` belong to step 3, and are false at any other.
+// A step by number, since C takes no enum. `got_pi` and `got_armed` belong to step 3, and are false at any other.
 #[repr(C)]
 #[derive(Clone, Copy)]
 pub struct CArmStep {

@@ -2,6 +2,7 @@
 -- it is. Beside an absent reply stands an empty one on the way out; on the way in what stands there is not looked at. Definitions only.
 -- Assumes nothing.
 use Rattle.std.specs.Prelude.{ℕ, true, false, cond, eqb, [], Option, Some, None, option_map, Result, Ok}
+use Rattle.std.specs.Bool.{then_some}
 use Rattle.protocol.specs.declared.Stored.{Stored}
 use Rattle.protocol.specs.declared.AvrStatus.{AvrStatus}
 use Rattle.protocol.specs.declared.CalDataResp.{CalDataResp}
@@ -15,7 +16,7 @@ use Rattle.avr_table.specs.declared.AvrStep.TheVariants as Avr
 use Rattle.avr.specs.declared.AvrSequencer.{AvrSequencer}
 use Rattle.abi_values.specs.declared.UnknownNumber.{UnknownNumber}
 use Rattle.abi_values.specs.Numbers.{unknown, and_then, model_in, model_out}
-use Rattle.abi_values.specs.Options.{present, instant_in, instant_out, dev_info_in, dev_info_out, config_in, config_out}
+use Rattle.abi_values.specs.Options.{instant_in, instant_out, dev_info_in, dev_info_out, config_in, config_out}
 use Rattle.abi_avr.specs.declared.COptionAvrStatus.{COptionAvrStatus}
 use Rattle.abi_avr.specs.declared.COptionStored.{COptionStored}
 use Rattle.abi_avr.specs.declared.CAvrReplies.{CAvrReplies}
@@ -42,12 +43,12 @@ avr_config_out c = stored_out (option_map (λ (r : AvrConfigResp). r.payload) c)
 
 abbrev pub replies_in : CAvrReplies → AvrReplies
 replies_in c = record {
-  status = present c.status.some c.status.value;
+  status = then_some c.status.some c.status.value;
   dev_info = dev_info_in c.dev_info;
   config = config_in c.config;
-  factory_cal = present c.factory_cal.some (record { payload = c.factory_cal.value });
-  if_cal = present c.if_cal.some (record { payload = c.if_cal.value });
-  avr_config = present c.avr_config.some (record { payload = c.avr_config.value });
+  factory_cal = then_some c.factory_cal.some (record { payload = c.factory_cal.value });
+  if_cal = then_some c.if_cal.some (record { payload = c.if_cal.value });
+  avr_config = then_some c.avr_config.some (record { payload = c.avr_config.value });
 }
 
 abbrev pub replies_out : AvrReplies → CAvrReplies

@@ -11,6 +11,7 @@ use avr_steps::AvrState;
 use avr_table::{AvrReplies, AvrStep};
 use protocol::{AvrConfigResp, AvrStatus, CalDataResp, CalParamResp, Stored};
 
+// C takes no `Option`.
 #[repr(C)]
 #[derive(Clone, Copy)]
 pub struct COptionAvrStatus {
@@ -18,7 +19,7 @@ pub struct COptionAvrStatus {
     pub value: AvrStatus,
 }
 
-// The bytes of a `CalDataResp`, a `CalParamResp` or an `AvrConfigResp`.
+// The bytes of a `CalDataResp`, a `CalParamResp` or an `AvrConfigResp`. C takes no `Option`.
 #[repr(C)]
 #[derive(Clone, Copy)]
 pub struct COptionStored {
@@ -101,6 +102,7 @@ impl From<AvrReplies> for CAvrReplies {
     }
 }
 
+// The steps by number, since C takes no enum. Functions, and no `TryFrom` and `From`: both types stand in crates below.
 fn step_in(number: u8) -> Result<AvrStep, UnknownNumber>
     ensures { result ≡ avr_step_in number }
 {
@@ -125,21 +127,7 @@ fn step_in(number: u8) -> Result<AvrStep, UnknownNumber>
 fn step_out(step: AvrStep) -> u8
     ensures { result ≡ avr_step_out step }
 {
-    match step {
-        AvrStep::WaitStatus1 => 0,
-        AvrStep::WaitStatus2 => 1,
-        AvrStep::WaitDevInfo1 => 2,
-        AvrStep::WaitDevInfo2 => 3,
-        AvrStep::WaitParam0C => 4,
-        AvrStep::WaitParam0D => 5,
-        AvrStep::WaitConfig => 6,
-        AvrStep::WaitFactoryCal => 7,
-        AvrStep::WaitIfCal => 8,
-        AvrStep::WaitAvrConfig => 9,
-        AvrStep::WaitParam64 => 10,
-        AvrStep::WaitTimeSync => 11,
-        AvrStep::Done => 12,
-    }
+    step as u8
 }
 
 impl TryFrom<CAvr> for AvrSequencer {

@@ -9,7 +9,7 @@ use abi_values::UnknownNumber;
 use avr_config::AvrConfigSequencer;
 use avr_config_steps::AvrConfigStep;
 
-// `param_idx` belongs to steps 1 and 2, and is 0 at any other.
+// A step by number, since C takes no enum. `param_idx` belongs to steps 1 and 2, and is 0 at any other.
 #[repr(C)]
 #[derive(Clone, Copy)]
 pub struct CAvrConfigStep {

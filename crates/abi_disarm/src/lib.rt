@@ -13,6 +13,7 @@ pub struct CDisarm {
     pub step: u8,
 }
 
+// The steps by number, since C takes no enum. Functions, and no `TryFrom` and `From`: both types stand in crates below.
 fn step_in(number: u8) -> Result<DisarmStep, UnknownNumber>
     ensures { result ≡ disarm_step_in number }
 {
@@ -28,12 +29,7 @@ fn step_in(number: u8) -> Result<DisarmStep, UnknownNumber>
 fn step_out(step: DisarmStep) -> u8
     ensures { result ≡ disarm_step_out step }
 {
-    match step {
-        DisarmStep::WaitAck => 0,
-        DisarmStep::WaitModeReset => 1,
-        DisarmStep::WaitStateIdle => 2,
-        DisarmStep::Done => 3,
-    }
+    step as u8
 }
 
 impl TryFrom<CDisarm> for DisarmSequencer {

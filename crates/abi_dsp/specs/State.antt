@@ -2,6 +2,7 @@
 -- it is. Beside an absent record stands an empty one on the way out; on the way in its numbers must be known, and are then not looked at. Definitions only.
 -- Assumes nothing.
 use Rattle.std.specs.Prelude.{ℕ, true, false, cond, eqb, Option, Some, None, Result, Ok}
+use Rattle.std.specs.Bool.{then_some}
 use Rattle.protocol.specs.declared.BusAddr.{BusAddr}
 use Rattle.protocol.specs.declared.DspQueryResp.{DspQueryResp}
 use Rattle.protocol.specs.declared.Nack.{Nack}
@@ -14,7 +15,7 @@ use Rattle.dsp_table.specs.declared.DspStep.TheVariants as Dsp
 use Rattle.dsp.specs.declared.DspSequencer.{DspSequencer}
 use Rattle.abi_values.specs.declared.UnknownNumber.{UnknownNumber}
 use Rattle.abi_values.specs.Numbers.{unknown, and_then, addr_in}
-use Rattle.abi_values.specs.Options.{present, instant_in, instant_out, dev_info_in, dev_info_out, config_in, config_out}
+use Rattle.abi_values.specs.Options.{instant_in, instant_out, dev_info_in, dev_info_out, config_in, config_out}
 use Rattle.abi_messages.specs.Messages.{dsp_status_in, dsp_status_out}
 use Rattle.abi_dsp.specs.declared.COptionNack.{COptionNack}
 use Rattle.abi_dsp.specs.declared.COptionDspStatus.{COptionDspStatus}
@@ -24,21 +25,21 @@ use Rattle.abi_dsp.specs.declared.CDsp.{CDsp}
 -- ---- replies
 
 abbrev pub nack_in : COptionNack → Result (Option Nack) UnknownNumber
-nack_in c = and_then (addr_in c.src) (λ src. Ok (present c.some (record { src = src; type_id = c.type_id; nack = c.nack })))
+nack_in c = and_then (addr_in c.src) (λ src. Ok (then_some c.some (record { src = src; type_id = c.type_id; nack = c.nack })))
 
 abbrev pub nack_out : Option Nack → COptionNack
 nack_out (Some n) = record { some = true; src = byte_of n.src; type_id = n.type_id; nack = n.nack }
 nack_out None = record { some = false; src = byte_of BusAddr.App; type_id = 0; nack = no_ack }
 
 abbrev pub status_in : COptionDspStatus → Result (Option DspStatusReply) UnknownNumber
-status_in c = and_then (dsp_status_in c.value) (λ status. Ok (present c.some (record { status = status; payload = c.payload })))
+status_in c = and_then (dsp_status_in c.value) (λ status. Ok (then_some c.some (record { status = status; payload = c.payload })))
 
 abbrev pub status_out : Option DspStatusReply → COptionDspStatus
 status_out (Some r) = record { some = true; value = dsp_status_out r.status; payload = r.payload }
 status_out None = record { some = false; value = dsp_status_out no_status.status; payload = no_status.payload }
 
 abbrev pub hw_info_in : COptionDspQueryResp → Option DspQueryResp
-hw_info_in c = present c.some c.value
+hw_info_in c = then_some c.some c.value
 
 abbrev pub hw_info_out : Option DspQueryResp → COptionDspQueryResp
 hw_info_out (Some q) = record { some = true; value = q }

@@ -12,6 +12,7 @@ use dsp_steps::DspState;
 use dsp_table::{DspReplies, DspStatusReply, DspStep};
 use protocol::{BusAddr, ConfigAck, DspQueryResp, Nack, ProdInfoResp, Stored};
 
+// C takes no `Option`.
 #[repr(C)]
 #[derive(Clone, Copy)]
 pub struct COptionNack {
@@ -21,6 +22,7 @@ pub struct COptionNack {
     pub nack: ConfigAck,
 }
 
+// C takes no `Option`.
 #[repr(C)]
 #[derive(Clone, Copy)]
 pub struct COptionDspStatus {
@@ -29,6 +31,7 @@ pub struct COptionDspStatus {
     pub payload: Stored,
 }
 
+// C takes no `Option`.
 #[repr(C)]
 #[derive(Clone, Copy)]
 pub struct COptionDspQueryResp {
@@ -143,6 +146,7 @@ impl From<Option<DspQueryResp>> for COptionDspQueryResp {
     }
 }
 
+// The steps by number, since C takes no enum. Functions, and no `TryFrom` and `From`: both types stand in crates below.
 fn step_in(number: u8) -> Result<DspStep, UnknownNumber>
     ensures { result ≡ dsp_step_in number }
 {
@@ -163,17 +167,7 @@ fn step_in(number: u8) -> Result<DspStep, UnknownNumber>
 fn step_out(step: DspStep) -> u8
     ensures { result ≡ dsp_step_out step }
 {
-    match step {
-        DspStep::WaitStatus => 0,
-        DspStep::WaitDspQuery => 1,
-        DspStep::WaitDevInfo => 2,
-        DspStep::WaitProdInfo0 => 3,
-        DspStep::WaitProdInfo1 => 4,
-        DspStep::WaitProdInfo2 => 5,
-        DspStep::WaitConfig => 6,
-        DspStep::WaitPowerMode => 7,
-        DspStep::Done => 8,
-    }
+    step as u8
 }
 
 impl TryFrom<CDsp> for DspSequencer {
@@ -209,6 +203,7 @@ impl From<DspSequencer> for CDsp {
 
     fn from(seq: DspSequencer) -> CDsp {
         let replies = seq.state.replies;
+        // By a variable: the borrow checker refuses this field, which is an array, straight in the literal.
         let prod_info = replies.prod_info;
         CDsp {
             step: step_out(seq.state.step),

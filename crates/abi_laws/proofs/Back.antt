@@ -1,6 +1,7 @@
 -- There and back, case by case.
 -- Assumes nothing.
 use Rattle.std.proofs.Common.{◌≡◌, refl, ℕ, List, [], ◌∷◌, Option, Some, None, Ok}
+use Rattle.std.specs.Bool.{then_some}
 use Rattle.protocol.specs.declared.Action.{Action}
 use Rattle.protocol.specs.declared.AvrConfigResp.{AvrConfigResp}
 use Rattle.protocol.specs.declared.AvrStatus.{AvrStatus}
@@ -26,7 +27,7 @@ use Rattle.settings.specs.declared.AvrSettings.{AvrSettings}
 use Rattle.dsp_table.specs.declared.DspStatusReply.{DspStatusReply}
 use Rattle.avr_table.specs.declared.AvrReplies.{AvrReplies}
 use Rattle.pi_table.specs.declared.PiReplies.{PiReplies}
-use Rattle.abi_values.specs.Options.{present, instant_in, instant_out, dev_info_in, dev_info_out, config_in, config_out}
+use Rattle.abi_values.specs.Options.{instant_in, instant_out, dev_info_in, dev_info_out, config_in, config_out}
 use Rattle.abi_values.specs.Numbers.{addr_in, model_in, model_out}
 use Rattle.abi_values.specs.Params.{param_as, param_in, param_out}
 use Rattle.abi_messages.specs.Messages.{dsp_status_in, dsp_status_out, message_in}
@@ -114,19 +115,19 @@ hw_info_back : (q : Option DspQueryResp) → hw_info_in (hw_info_out q) ≡ q
 hw_info_back (Some q) = refl
 hw_info_back None = refl
 
-avr_status_back : (s : Option AvrStatus) → present (avr.status_out s).some (avr.status_out s).value ≡ s
+avr_status_back : (s : Option AvrStatus) → then_some (avr.status_out s).some (avr.status_out s).value ≡ s
 avr_status_back (Some s) = refl
 avr_status_back None = refl
 
-factory_cal_back : (c : Option CalDataResp) → present (factory_cal_out c).some (record { payload = (factory_cal_out c).value }) ≡ c
+factory_cal_back : (c : Option CalDataResp) → then_some (factory_cal_out c).some (record { payload = (factory_cal_out c).value }) ≡ c
 factory_cal_back (Some c) = refl
 factory_cal_back None = refl
 
-if_cal_back : (c : Option CalParamResp) → present (if_cal_out c).some (record { payload = (if_cal_out c).value }) ≡ c
+if_cal_back : (c : Option CalParamResp) → then_some (if_cal_out c).some (record { payload = (if_cal_out c).value }) ≡ c
 if_cal_back (Some c) = refl
 if_cal_back None = refl
 
-avr_answer_back : (c : Option AvrConfigResp) → present (avr_config_out c).some (record { payload = (avr_config_out c).value }) ≡ c
+avr_answer_back : (c : Option AvrConfigResp) → then_some (avr_config_out c).some (record { payload = (avr_config_out c).value }) ≡ c
 avr_answer_back (Some c) = refl
 avr_answer_back None = refl
 
@@ -134,7 +135,7 @@ avr_replies_back : (y : AvrReplies) → avr.replies_in (avr.replies_out y) ≡ y
 avr_replies_back y =
     rw (avr_status_back y.status, dev_info_back y.dev_info, config_back y.config, factory_cal_back y.factory_cal, if_cal_back y.if_cal, avr_answer_back y.avr_config)
 
-cam_config_back : (c : Option CamConfig) → present (cam_config_out c).some (cam_config_out c).value ≡ c
+cam_config_back : (c : Option CamConfig) → then_some (cam_config_out c).some (cam_config_out c).value ≡ c
 cam_config_back (Some c) = refl
 cam_config_back None = refl
 

@@ -2,6 +2,7 @@
 -- only comes in and a send only goes out; the way that the host's side goes is written out here for both. Definitions only.
 -- Assumes nothing.
 use Rattle.std.specs.Prelude.{ℕ, ◌≡◌, Option, Ok, List, [], ◌∷◌, get_or}
+use Rattle.std.specs.Bool.{then_some}
 use Rattle.std.specs.Result.{result_unwrap_or}
 use Rattle.protocol.specs.declared.BusAddr.{BusAddr}
 use Rattle.protocol.specs.declared.CamConfig.{CamConfig}
@@ -29,7 +30,6 @@ use Rattle.avr_config.specs.declared.AvrConfigSequencer.{AvrConfigSequencer}
 use Rattle.arm.specs.declared.ArmSequencer.{ArmSequencer}
 use Rattle.disarm.specs.declared.DisarmSequencer.{DisarmSequencer}
 use Rattle.abi_values.specs.Numbers.{addr_in, model_in, model_out}
-use Rattle.abi_values.specs.Options.{present}
 use Rattle.abi_values.specs.Params.{param_in, param_out}
 use Rattle.abi_messages.specs.declared.CMessage.{CMessage}
 use Rattle.abi_messages.specs.Messages.{dsp_status_in, dsp_status_out, message_in}
@@ -108,7 +108,7 @@ command_in c = get_or (commands_of c) c.number Cmd.DspQuery
 
 abbrev pub action_in : CAction → Option Action
 action_in a =
-    present a.some (record { command = command_in a.command; dest = result_unwrap_or (addr_in a.dest) BusAddr.App; payload = a.payload; tail = a.tail })
+    then_some a.some (record { command = command_in a.command; dest = result_unwrap_or (addr_in a.dest) BusAddr.App; payload = a.payload; tail = a.tail })
 
 -- ---- there and back
 

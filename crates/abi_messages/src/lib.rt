@@ -10,7 +10,7 @@ use protocol::{
     Message, ModeSet, RadarCal, TimeSync,
 };
 
-// `v80` counts where `layout` is 0, `v46` where it is 1.
+// `v80` counts where `layout` is 0, `v46` where it is 1: C takes no enum.
 #[repr(C)]
 #[derive(Clone, Copy)]
 pub struct CDspStatus {
@@ -19,7 +19,7 @@ pub struct CDspStatus {
     pub v46: DspStatus46,
 }
 
-// The record of its kind counts, and no other.
+// The record of its kind counts, and no other: C takes no enum, and so a kind is its place in the Rust's.
 #[repr(C)]
 #[derive(Clone, Copy)]
 pub struct CMessage {
@@ -45,7 +45,8 @@ pub struct CEnvelope {
     pub params: [i16; 34],
 }
 
-// An envelope without its text and payload.
+// An envelope as the sequences have it, but for its text and payload, which C lends as slices beside. (Crate envelope's refers to those,
+// and stands above the sequences.)
 #[derive(Clone, Copy)]
 pub struct Envelope {
     pub src: BusAddr,

@@ -2,6 +2,7 @@
 -- it is. `idx` stands beside step 7. Beside an absent reply stands an empty one on the way out; on the way in what stands there is not looked at. Definitions only.
 -- Assumes nothing.
 use Rattle.std.specs.Prelude.{true, false, cond, eqb, Option, Some, None, Result, Ok}
+use Rattle.std.specs.Bool.{then_some}
 use Rattle.protocol.specs.declared.CamConfig.{CamConfig}
 use Rattle.protocol.specs.Carried.{no_cam_config}
 use Rattle.pi_table.specs.declared.PiReplies.{PiReplies}
@@ -10,7 +11,7 @@ use Rattle.pi_table.specs.declared.PiStep.TheVariants as Pi
 use Rattle.pi.specs.declared.PiSequencer.{PiSequencer}
 use Rattle.abi_values.specs.declared.UnknownNumber.{UnknownNumber}
 use Rattle.abi_values.specs.Numbers.{unknown, and_then}
-use Rattle.abi_values.specs.Options.{present, dev_info_in, dev_info_out}
+use Rattle.abi_values.specs.Options.{dev_info_in, dev_info_out}
 use Rattle.abi_pi.specs.declared.COptionCamConfig.{COptionCamConfig}
 use Rattle.abi_pi.specs.declared.CPiReplies.{CPiReplies}
 use Rattle.abi_pi.specs.declared.CPiStep.{CPiStep}
@@ -23,7 +24,7 @@ cam_config_out None = record { some = false; value = no_cam_config }
 abbrev pub replies_in : CPiReplies → PiReplies
 replies_in c = record {
   dev_info = dev_info_in c.dev_info;
-  cam_config = present c.cam_config.some c.cam_config.value;
+  cam_config = then_some c.cam_config.some c.cam_config.value;
   ssid = c.ssid;
   password = c.password;
 }

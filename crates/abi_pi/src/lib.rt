@@ -10,6 +10,7 @@ use pi::PiSequencer;
 use pi_table::{PiReplies, PiStep};
 use protocol::{CamConfig, Stored};
 
+// C takes no `Option`.
 #[repr(C)]
 #[derive(Clone, Copy)]
 pub struct COptionCamConfig {
@@ -26,7 +27,7 @@ pub struct CPiReplies {
     pub password: Stored,
 }
 
-// `idx` belongs to step 7, and is 0 at any other.
+// A step by number, since C takes no enum. `idx` belongs to step 7, and is 0 at any other.
 #[repr(C)]
 #[derive(Clone, Copy)]
 pub struct CPiStep {

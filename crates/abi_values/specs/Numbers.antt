@@ -11,7 +11,7 @@ use Rattle.abi_values.specs.declared.UnknownNumber.{UnknownNumber}
 abbrev pub unknown : {A : Type 0} → Result A UnknownNumber
 unknown = Err (record {})
 
--- f of what a number stands for, where it stands for anything
+-- f of what a number stands for, where it stands for anything. std has the word for an Option (option_and_then), and none for a Result.
 abbrev pub and_then : {A B : Type 0} → Result A UnknownNumber → (A → Result B UnknownNumber) → Result B UnknownNumber
 and_then (Ok x) f = f x
 and_then (Err e) f = Err e

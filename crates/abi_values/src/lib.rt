@@ -16,7 +16,7 @@ pub mod options;
 #[derive(Clone, Copy, PartialEq, Eq)]
 pub struct UnknownNumber;
 
-// `int24` counts where `format` is 0, `float40` where it is 1.
+// `int24` counts where `format` is 0, `float40` where it is 1: C takes no enum.
 #[repr(C)]
 #[derive(Clone, Copy)]
 pub struct CParamValue {
@@ -26,7 +26,8 @@ pub struct CParamValue {
     pub float40: f64,
 }
 
-// The device at this byte of the bus. A function, and no `TryFrom`: both types stand in crates below.
+// The device at this byte of the bus, which C has in place of the enum. A function, and no `TryFrom`: both types stand in
+// crates below, and those know nothing of C.
 pub fn addr_in(byte: u8) -> Result<BusAddr, UnknownNumber>
     ensures { result ≡ addr_in byte }
 {
@@ -39,6 +40,7 @@ pub fn addr_in(byte: u8) -> Result<BusAddr, UnknownNumber>
     }
 }
 
+// The models by number, since C takes no enum. Functions, as `addr_in` is.
 pub fn model_in(number: u8) -> Result<DeviceModel, UnknownNumber>
     ensures { result ≡ model_in number }
 {
@@ -52,13 +54,10 @@ pub fn model_in(number: u8) -> Result<DeviceModel, UnknownNumber>
 pub fn model_out(model: DeviceModel) -> u8
     ensures { result ≡ model_out model }
 {
-    match model {
-        DeviceModel::Mevo => 0,
-        DeviceModel::Xi => 1,
-    }
+    model as u8
 }
 
-// 0 for an accepted call, else the refusal's number.
+// 0 for an accepted call, else the refusal's number, since C takes no `Result`. A function, as `addr_in` is.
 pub fn refusal_out<T: Copy>(outcome: Result<T, Refusal>) -> u8
     ensures { result ≡ refusal_out outcome }
 {
@@ -68,6 +67,7 @@ pub fn refusal_out<T: Copy>(outcome: Result<T, Refusal>) -> u8
     }
 }
 
+// The formats by number, since C takes no enum.
 impl TryFrom<CParamValue> for ParamValue {
     type Error = UnknownNumber;
 

@@ -1,10 +1,11 @@
 // Records that may be absent, as they cross to a host: `value` counts where `some` is set. Beside an absent one stands the empty record
-// on the way out; on the way in it is not looked at. A record for each type, since C takes none with a type parameter.
+// on the way out; on the way in it is not looked at. A record for each type, since C takes no `Option` and none with a type parameter.
 ghost use Rattle.std.specs.Prelude.{◌≡◌};
 ghost use Rattle.abi_values.specs.Options.{instant_in, instant_out, dev_info_in, dev_info_out, config_in, config_out};
 
 use protocol::{ConfigResp, DevInfoResp};
 
+// C takes no `Option`.
 #[repr(C)]
 #[derive(Clone, Copy)]
 pub struct COptionInstant {
@@ -12,6 +13,7 @@ pub struct COptionInstant {
     pub value: u64,
 }
 
+// C takes no `Option`.
 #[repr(C)]
 #[derive(Clone, Copy)]
 pub struct COptionDevInfoResp {
@@ -19,6 +21,7 @@ pub struct COptionDevInfoResp {
     pub value: DevInfoResp,
 }
 
+// C takes no `Option`.
 #[repr(C)]
 #[derive(Clone, Copy)]
 pub struct COptionConfigResp {

@@ -1,3 +1,4 @@
 pub mod Sends
+pub mod Fed
 pub mod Untimed
 pub mod Timed

@@ -4,17 +4,13 @@ use Rattle.std.specs.Prelude.{ℕ, List, None, Result, Ok, Err}
 use Rattle.protocol.specs.declared.Refusal.{Refusal}
 use Rattle.protocol.specs.Refusals.{number}
 use Rattle.device.specs.declared.model.DeviceModel.{DeviceModel}
-use Rattle.sequence.specs.declared.Answer.{Answer}
-use Rattle.dsp.specs.declared.DspSequencer.{DspSequencer}
 use Rattle.dsp.specs.declared.DspSync.{DspSync}
 use Rattle.dsp.specs.Answers as dsp
-use Rattle.avr.specs.declared.AvrSequencer.{AvrSequencer}
 use Rattle.avr.specs.declared.AvrSync.{AvrSync}
 use Rattle.avr.specs.Answers as avr
-use Rattle.abi_values.specs.Numbers.{model_in, model_out, refusal_out}
+use Rattle.abi_values.specs.Numbers.{model_in, model_out}
 use Rattle.abi_messages.specs.declared.CEnvelope.{CEnvelope}
 use Rattle.abi_messages.specs.Messages.{envelope_in, dsp_status_out}
-use Rattle.abi.specs.Actions.{nothing}
 use Rattle.abi_dsp.specs.declared.CDsp.{CDsp}
 use Rattle.abi_avr.specs.declared.CAvr.{CAvr}
 use Rattle.abi_dsp.specs.State.{nack_out, hw_info_out, dsp_in, dsp_out}
@@ -26,25 +22,24 @@ use Rattle.host.specs.declared.c_dsp.CDspTaken.{CDspTaken}
 use Rattle.host.specs.declared.c_avr.CAvrFed.{CAvrFed}
 use Rattle.host.specs.declared.c_avr.CAvrSync.{CAvrSync}
 use Rattle.host.specs.declared.c_avr.CAvrFinished.{CAvrFinished}
-use Rattle.host.specs.Sends.{unknown, known, both, sent, opened}
-
--- A state that a host hands in may have something beside a record that is told as absent, which no call's answer has: it is not looked at,
--- and is empty in the state that goes back.
+use Rattle.host.specs.Sends.{unknown, known, both, opened}
+use Rattle.host.specs.Fed.{first, answered, declined}
+use Rattle.host.specs.declared.fed.Fed.{Fed}
 
 -- ---- DSP
 
-abbrev pub dsp_fed : Answer DspSequencer → CDspFed
-dsp_fed f = record { refusal = refusal_out f.outcome; action = sent f.outcome; seq = dsp_out f.seq }
+abbrev pub dsp_fed : Fed CDsp → CDspFed
+dsp_fed f = record { refusal = f.refusal; action = f.action; seq = f.seq }
 
-abbrev pub dsp_declined : CDsp → CDspFed
-dsp_declined c = record { refusal = unknown; action = nothing; seq = c }
+abbrev pub dsp_new : CDspFed
+dsp_new = dsp_fed (first dsp_out dsp.begun)
 
 abbrev pub dsp_feed : CDsp → CEnvelope → List ℕ → List ℕ → ℕ → CDspFed
 dsp_feed c e text payload t =
-    both (dsp_in c) (envelope_in e) (λ s v. dsp_fed (dsp.fed_to s (opened v v.params text payload) t)) (dsp_declined c)
+    dsp_fed (both (dsp_in c) (envelope_in e) (λ s v. answered dsp_out (dsp.fed_to s (opened v v.params text payload) t) c) (declined c))
 
 abbrev pub dsp_check : CDsp → ℕ → CDspFed
-dsp_check c t = known (dsp_in c) (λ s. dsp_fed (dsp.polled s t)) (dsp_declined c)
+dsp_check c t = dsp_fed (known (dsp_in c) (λ s. answered dsp_out (dsp.polled s t) c) (declined c))
 
 abbrev pub dsp_sync : DspSync → CDspSync
 dsp_sync s = record {
@@ -76,11 +71,11 @@ dsp_take c =
 
 -- ---- AVR
 
-abbrev pub avr_fed : Answer AvrSequencer → CAvrFed
-avr_fed f = record { refusal = refusal_out f.outcome; action = sent f.outcome; seq = avr_out f.seq }
+abbrev pub avr_fed : Fed CAvr → CAvrFed
+avr_fed f = record { refusal = f.refusal; action = f.action; seq = f.seq }
 
-abbrev pub avr_declined : CAvr → CAvrFed
-avr_declined c = record { refusal = unknown; action = nothing; seq = c }
+abbrev pub avr_new : CAvrFed
+avr_new = avr_fed (first avr_out (avr.begun DeviceModel.Mevo))
 
 -- no step has this number: every call declines it, so that no model is taken by default
 abbrev pub at255 : CAvr → CAvr
@@ -90,14 +85,15 @@ abbrev pub avr_unknown : CAvr
 avr_unknown = at255 (avr_out (avr.begun DeviceModel.Mevo).seq)
 
 abbrev pub avr_new_for : ℕ → CAvrFed
-avr_new_for model = known (model_in model) (λ m. avr_fed (avr.begun m)) (avr_declined avr_unknown)
+avr_new_for model = avr_fed (known (model_in model) (λ m. first avr_out (avr.begun m)) (declined avr_unknown))
 
 abbrev pub avr_feed : CAvr → CEnvelope → List ℕ → List ℕ → ℕ → ℕ → CAvrFed
 avr_feed c e text payload t wall =
-    both (avr_in c) (envelope_in e) (λ s v. avr_fed (avr.fed_to s (record { envelope = opened v v.params text payload; wall = wall }) t)) (avr_declined c)
+    avr_fed (both (avr_in c) (envelope_in e)
+    (λ s v. answered avr_out (avr.fed_to s (record { envelope = opened v v.params text payload; wall = wall }) t) c) (declined c))
 
 abbrev pub avr_check : CAvr → ℕ → CAvrFed
-avr_check c t = known (avr_in c) (λ s. avr_fed (avr.polled s t)) (avr_declined c)
+avr_check c t = avr_fed (known (avr_in c) (λ s. answered avr_out (avr.polled s t) c) (declined c))
 
 abbrev pub avr_sync : AvrSync → CAvrSync
 avr_sync s = record {

@@ -1,26 +1,22 @@
 -- What a host's calls of the sequences without a clock answer: as the call itself, of the state and the envelope that the numbers stand for.
--- Numbers that no case has are refused with 21: nothing is sent, and the state is the one handed in. Definitions only.
+-- A call that is refused gives back the state that was handed in; numbers that no case has are refused with 21. Definitions only.
 -- Assumes nothing.
 use Rattle.std.specs.Prelude.{ℕ, cond, false, List, [], ltb, Result, Ok, Err}
 use Rattle.protocol.specs.declared.Refusal.{Refusal}
 use Rattle.protocol.specs.Refusals.{number}
 use Rattle.settings.specs.Settings.{mode_only}
-use Rattle.sequence.specs.declared.Answer.{Answer}
+use Rattle.device.specs.declared.model.DeviceModel.{DeviceModel}
 use Rattle.sequence.specs.Rows.{refused}
-use Rattle.pi.specs.declared.PiSequencer.{PiSequencer}
 use Rattle.pi.specs.declared.PiSync.{PiSync}
 use Rattle.pi.specs.Answers as pi
 use Rattle.avr_config.specs.declared.AvrConfigSequencer.{AvrConfigSequencer}
 use Rattle.avr_config.specs.Answers as config
-use Rattle.arm.specs.declared.ArmSequencer.{ArmSequencer}
 use Rattle.arm.specs.Answers as arm
-use Rattle.disarm.specs.declared.DisarmSequencer.{DisarmSequencer}
 use Rattle.disarm.specs.Answers as disarm
-use Rattle.abi_values.specs.Numbers.{model_in, refusal_out}
+use Rattle.abi_values.specs.Numbers.{model_in}
 use Rattle.abi_messages.specs.declared.CEnvelope.{CEnvelope}
 use Rattle.abi_messages.specs.Messages.{envelope_in}
 use Rattle.abi.specs.declared.config.CSettings.{CSettings}
-use Rattle.abi.specs.Actions.{nothing}
 use Rattle.abi.specs.Settings.{settings_in}
 use Rattle.abi_pi.specs.declared.CPi.{CPi}
 use Rattle.abi_avr_config.specs.declared.CAvrConfig.{CAvrConfig}
@@ -36,18 +32,20 @@ use Rattle.host.specs.declared.c_avr_config.CAvrConfigFed.{CAvrConfigFed}
 use Rattle.host.specs.declared.c_arm.CArmFed.{CArmFed}
 use Rattle.host.specs.declared.c_arm.CRetries.{CRetries}
 use Rattle.host.specs.declared.c_disarm.CDisarmFed.{CDisarmFed}
-use Rattle.host.specs.Sends.{unknown, known, both, sent, opened}
+use Rattle.host.specs.Sends.{unknown, known, both, opened}
+use Rattle.host.specs.Fed.{first, answered, declined}
+use Rattle.host.specs.declared.fed.Fed.{Fed}
 
 -- ---- Pi
 
-abbrev pub pi_fed : Answer PiSequencer → CPiFed
-pi_fed f = record { refusal = refusal_out f.outcome; action = sent f.outcome; seq = pi_out f.seq }
+abbrev pub pi_fed : Fed CPi → CPiFed
+pi_fed f = record { refusal = f.refusal; action = f.action; seq = f.seq }
 
-abbrev pub pi_declined : CPi → CPiFed
-pi_declined c = record { refusal = unknown; action = nothing; seq = c }
+abbrev pub pi_new : CPiFed
+pi_new = pi_fed (first pi_out pi.begun)
 
 abbrev pub pi_feed : CPi → CEnvelope → List ℕ → List ℕ → CPiFed
-pi_feed c e text payload = both (pi_in c) (envelope_in e) (λ s v. pi_fed (pi.fed_to s (opened v [] text payload))) (pi_declined c)
+pi_feed c e text payload = pi_fed (both (pi_in c) (envelope_in e) (λ s v. answered pi_out (pi.fed_to s (opened v [] text payload)) c) (declined c))
 
 -- beside a refusal stands what a new start-up has, which is empty
 abbrev pub no_pi_result : ℕ → CPiFinished
@@ -62,11 +60,8 @@ pi_result c = known (pi_in c) (λ s. pi_finished (pi.finished s)) (no_pi_result 
 
 -- ---- settings run
 
-abbrev pub avr_config_fed : Answer AvrConfigSequencer → CAvrConfigFed
-avr_config_fed f = record { refusal = refusal_out f.outcome; action = sent f.outcome; seq = avr_config_out f.seq }
-
-abbrev pub avr_config_declined : CAvrConfig → CAvrConfigFed
-avr_config_declined c = record { refusal = unknown; action = nothing; seq = c }
+abbrev pub avr_config_fed : Fed CAvrConfig → CAvrConfigFed
+avr_config_fed f = record { refusal = f.refusal; action = f.action; seq = f.seq }
 
 -- a run with mode 0, no parameters and no calibration
 abbrev pub no_run : AvrConfigSequencer
@@ -75,41 +70,42 @@ no_run = (config.begun (mode_only 0)).seq
 -- a count above 32 is told before a format that there is not; beside either stands that run
 abbrev pub avr_config_new : CSettings → CAvrConfigFed
 avr_config_new s =
-    cond (ltb 32 s.len) (avr_config_fed (refused no_run Refusal.TooManyParams))
-    (known (settings_in s) (λ v. avr_config_fed (config.begun v)) (avr_config_declined (avr_config_out no_run)))
+    avr_config_fed (cond (ltb 32 s.len) (first avr_config_out (refused no_run Refusal.TooManyParams))
+    (known (settings_in s) (λ v. first avr_config_out (config.begun v)) (declined (avr_config_out no_run))))
 
 abbrev pub avr_config_feed : CAvrConfig → CEnvelope → List ℕ → List ℕ → CAvrConfigFed
 avr_config_feed c e text payload =
-    both (avr_config_in c) (envelope_in e) (λ s v. avr_config_fed (config.fed_to s (opened v [] text payload))) (avr_config_declined c)
+    avr_config_fed (both (avr_config_in c) (envelope_in e) (λ s v. answered avr_config_out (config.fed_to s (opened v [] text payload)) c) (declined c))
 
 -- ---- arm
 
-abbrev pub arm_fed : Answer ArmSequencer → CArmFed
-arm_fed f = record { refusal = refusal_out f.outcome; action = sent f.outcome; seq = arm_out f.seq }
+abbrev pub arm_fed : Fed CArm → CArmFed
+arm_fed f = record { refusal = f.refusal; action = f.action; seq = f.seq }
 
-abbrev pub arm_declined : CArm → CArmFed
-arm_declined c = record { refusal = unknown; action = nothing; seq = c }
+abbrev pub arm_new : CArmFed
+arm_new = arm_fed (first arm_out (arm.begun DeviceModel.Mevo))
 
 -- no step has this number: every call declines it, so that no model is taken by default
 abbrev pub arm_unknown : CArm
 arm_unknown = record { step = record { number = 255; got_pi = false; got_armed = false }; retries = 0; wait_pi = false }
 
 abbrev pub arm_new_for : ℕ → CArmFed
-arm_new_for model = known (model_in model) (λ m. arm_fed (arm.begun m)) (arm_declined arm_unknown)
+arm_new_for model = arm_fed (known (model_in model) (λ m. first arm_out (arm.begun m)) (declined arm_unknown))
 
 abbrev pub arm_feed : CArm → CEnvelope → List ℕ → List ℕ → CArmFed
-arm_feed c e text payload = both (arm_in c) (envelope_in e) (λ s v. arm_fed (arm.fed_to s (opened v [] text payload))) (arm_declined c)
+arm_feed c e text payload = arm_fed (both (arm_in c) (envelope_in e) (λ s v. answered arm_out (arm.fed_to s (opened v [] text payload)) c) (declined c))
 
 abbrev pub arm_retries : CArm → CRetries
 arm_retries c = known (arm_in c) (λ s. record { refusal = 0; retries = s.retries }) (record { refusal = unknown; retries = 0 })
 
 -- ---- disarm
 
-abbrev pub disarm_fed : Answer DisarmSequencer → CDisarmFed
-disarm_fed f = record { refusal = refusal_out f.outcome; action = sent f.outcome; seq = disarm_out f.seq }
+abbrev pub disarm_fed : Fed CDisarm → CDisarmFed
+disarm_fed f = record { refusal = f.refusal; action = f.action; seq = f.seq }
 
-abbrev pub disarm_declined : CDisarm → CDisarmFed
-disarm_declined c = record { refusal = unknown; action = nothing; seq = c }
+abbrev pub disarm_new : CDisarmFed
+disarm_new = disarm_fed (first disarm_out disarm.begun)
 
 abbrev pub disarm_feed : CDisarm → CEnvelope → List ℕ → List ℕ → CDisarmFed
-disarm_feed c e text payload = both (disarm_in c) (envelope_in e) (λ s v. disarm_fed (disarm.fed_to s (opened v [] text payload))) (disarm_declined c)
+disarm_feed c e text payload =
+    disarm_fed (both (disarm_in c) (envelope_in e) (λ s v. answered disarm_out (disarm.fed_to s (opened v [] text payload)) c) (declined c))

@@ -1,16 +1,15 @@
-// Arm.
+// Arm. C calls no function and takes no record with a type parameter, so what is alike in the
+// files of other sequences stands here again.
 ghost use Rattle.std.specs.Prelude.{◌≡◌};
-ghost use Rattle.device.specs.declared.model.DeviceModel.{DeviceModel};
-ghost use Rattle.arm.specs.Answers.{begun};
-ghost use Rattle.host.specs.Untimed.{arm_unknown, arm_new_for, arm_fed, arm_declined, arm_feed, arm_retries};
+ghost use Rattle.host.specs.Untimed.{arm_unknown, arm_new_for, arm_fed, arm_feed, arm_retries, arm_new};
 
 use crate::UNKNOWN;
+use crate::fed::Fed;
 use abi::action::CAction;
 use abi_arm::{CArm, CArmStep};
 use abi_messages::{CEnvelope, Envelope};
-use abi_values::{model_in, refusal_out};
+use abi_values::model_in;
 use arm::ArmSequencer;
-use sequence::Answer;
 
 #[repr(C)]
 #[derive(Clone, Copy)]
@@ -27,25 +26,16 @@ pub struct CRetries {
     pub retries: u16,
 }
 
-impl From<Answer<ArmSequencer>> for CArmFed {
+// C takes no record with a type parameter.
+impl From<Fed<CArm>> for CArmFed {
     ghost from_gives = { λ fed r. r ≡ arm_fed fed };
 
-    fn from(fed: Answer<ArmSequencer>) -> CArmFed {
+    fn from(fed: Fed<CArm>) -> CArmFed {
         CArmFed {
-            refusal: refusal_out(fed.outcome),
-            action: fed.outcome.unwrap_or(None).into(),
-            seq: fed.seq.into(),
+            refusal: fed.refusal,
+            action: fed.action,
+            seq: fed.seq,
         }
-    }
-}
-
-fn declined(seq: CArm) -> CArmFed
-    ensures { result ≡ arm_declined seq }
-{
-    CArmFed {
-        refusal: UNKNOWN,
-        action: CAction::none(),
-        seq,
     }
 }
 
@@ -66,9 +56,9 @@ fn unknown() -> CArm
 
 #[unsafe(no_mangle)]
 pub extern "C" fn wigtalom_arm_new() -> CArmFed
-    ensures { result ≡ arm_fed (begun DeviceModel.Mevo) }
+    ensures { result ≡ arm_new }
 {
-    ArmSequencer::new().into()
+    Fed::<CArm>::from(ArmSequencer::new()).into()
 }
 
 #[unsafe(no_mangle)]
@@ -76,11 +66,12 @@ pub extern "C" fn wigtalom_arm_new_for(model: u8) -> CArmFed
     ensures { result ≡ arm_new_for model }
 {
     match model_in(model) {
-        Ok(model) => ArmSequencer::new_for(model).into(),
-        Err(_) => declined(unknown()),
+        Ok(model) => Fed::<CArm>::from(ArmSequencer::new_for(model)).into(),
+        Err(_) => Fed::declined(unknown()).into(),
     }
 }
 
+// C calls a function that takes no type parameter, and so each sequence has its own.
 #[unsafe(no_mangle)]
 pub extern "C" fn wigtalom_arm_feed(
     seq: CArm,
@@ -91,10 +82,10 @@ pub extern "C" fn wigtalom_arm_feed(
     ensures { result ≡ arm_feed seq env text.now payload.now }
 {
     let (Ok(open), Ok(env)) = (ArmSequencer::try_from(seq), Envelope::try_from(env)) else {
-        return declined(seq);
+        return Fed::declined(seq).into();
     };
-    open.feed(env.src, env.type_id, env.message, text, payload)
-        .into()
+    let fed = open.feed(env.src, env.type_id, env.message, text, payload);
+    Fed::answered(fed, seq).into()
 }
 
 #[unsafe(no_mangle)]

@@ -1,17 +1,16 @@
-// The AVR start-up.
+// The AVR start-up. C calls no function and takes no record with a type parameter, so what is alike in the
+// files of other sequences stands here again.
 ghost use Rattle.std.specs.Prelude.{◌≡◌};
-ghost use Rattle.device.specs.declared.model.DeviceModel.{DeviceModel};
-ghost use Rattle.avr.specs.Answers.{begun};
-ghost use Rattle.host.specs.Timed.{avr_unknown, avr_new_for, avr_fed, avr_declined, avr_feed, avr_check, avr_sync, no_avr_result, avr_finished, avr_result};
+ghost use Rattle.host.specs.Timed.{avr_unknown, avr_new_for, avr_fed, avr_feed, avr_check, avr_sync, no_avr_result, avr_finished, avr_result, avr_new};
 
 use crate::UNKNOWN;
+use crate::fed::Fed;
 use abi::action::CAction;
 use abi_avr::{CAvr, COptionStored};
 use abi_messages::{CEnvelope, Envelope};
-use abi_values::{model_in, refusal_out};
+use abi_values::model_in;
 use avr::{AvrSequencer, AvrSync};
 use protocol::{AvrStatus, ConfigResp, DevInfoResp, Refusal};
-use sequence::Answer;
 
 #[repr(C)]
 #[derive(Clone, Copy)]
@@ -39,25 +38,16 @@ pub struct CAvrFinished {
     pub sync: CAvrSync,
 }
 
-impl From<Answer<AvrSequencer>> for CAvrFed {
+// C takes no record with a type parameter.
+impl From<Fed<CAvr>> for CAvrFed {
     ghost from_gives = { λ fed r. r ≡ avr_fed fed };
 
-    fn from(fed: Answer<AvrSequencer>) -> CAvrFed {
+    fn from(fed: Fed<CAvr>) -> CAvrFed {
         CAvrFed {
-            refusal: refusal_out(fed.outcome),
-            action: fed.outcome.unwrap_or(None).into(),
-            seq: fed.seq.into(),
+            refusal: fed.refusal,
+            action: fed.action,
+            seq: fed.seq,
         }
-    }
-}
-
-fn declined(seq: CAvr) -> CAvrFed
-    ensures { result ≡ avr_declined seq }
-{
-    CAvrFed {
-        refusal: UNKNOWN,
-        action: CAction::none(),
-        seq,
     }
 }
 
@@ -76,7 +66,7 @@ impl From<AvrSync> for CAvrSync {
     }
 }
 
-// Beside a refusal stands what a new start-up has.
+// Beside a refusal stands what a new start-up has; each start-up has replies and a record of its own.
 fn no_result(refusal: u8) -> CAvrFinished
     ensures { result ≡ no_avr_result refusal }
 {
@@ -113,9 +103,9 @@ fn unknown() -> CAvr
 
 #[unsafe(no_mangle)]
 pub extern "C" fn wigtalom_avr_new() -> CAvrFed
-    ensures { result ≡ avr_fed (begun DeviceModel.Mevo) }
+    ensures { result ≡ avr_new }
 {
-    AvrSequencer::new().into()
+    Fed::<CAvr>::from(AvrSequencer::new()).into()
 }
 
 #[unsafe(no_mangle)]
@@ -123,11 +113,12 @@ pub extern "C" fn wigtalom_avr_new_for(model: u8) -> CAvrFed
     ensures { result ≡ avr_new_for model }
 {
     match model_in(model) {
-        Ok(model) => AvrSequencer::new_for(model).into(),
-        Err(_) => declined(unknown()),
+        Ok(model) => Fed::<CAvr>::from(AvrSequencer::new_for(model)).into(),
+        Err(_) => Fed::declined(unknown()).into(),
     }
 }
 
+// C calls a function that takes no type parameter, and so each sequence has its own.
 #[unsafe(no_mangle)]
 pub extern "C" fn wigtalom_avr_feed(
     seq: CAvr,
@@ -140,9 +131,9 @@ pub extern "C" fn wigtalom_avr_feed(
     ensures { result ≡ avr_feed seq env text.now payload.now now wall }
 {
     let (Ok(open), Ok(env)) = (AvrSequencer::try_from(seq), Envelope::try_from(env)) else {
-        return declined(seq);
+        return Fed::declined(seq).into();
     };
-    open.feed(
+    let fed = open.feed(
         env.src,
         env.type_id,
         env.message,
@@ -151,8 +142,8 @@ pub extern "C" fn wigtalom_avr_feed(
         payload,
         now,
         wall,
-    )
-    .into()
+    );
+    Fed::answered(fed, seq).into()
 }
 
 #[unsafe(no_mangle)]
@@ -160,8 +151,8 @@ pub extern "C" fn wigtalom_avr_check(seq: CAvr, now: u64) -> CAvrFed
     ensures { result ≡ avr_check seq now }
 {
     match AvrSequencer::try_from(seq) {
-        Ok(open) => open.check_cal_timeout(now).into(),
-        Err(_) => declined(seq),
+        Ok(open) => Fed::answered(open.check_cal_timeout(now), seq).into(),
+        Err(_) => Fed::declined(seq).into(),
     }
 }
 

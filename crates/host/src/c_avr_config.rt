@@ -1,15 +1,15 @@
-// The AVR configuration, and its settings.
+// The AVR configuration, and its settings. C calls no function and takes no record with a type parameter, so what is alike in the
+// files of other sequences stands here again.
 ghost use Rattle.std.specs.Prelude.{◌≡◌};
 ghost use Rattle.settings.specs.Settings.{mode_only, from_mevo};
 ghost use Rattle.abi.specs.Settings.{settings_out};
-ghost use Rattle.host.specs.Untimed.{avr_config_fed, avr_config_declined, avr_config_new, avr_config_feed};
+ghost use Rattle.host.specs.Untimed.{avr_config_fed, avr_config_new, avr_config_feed};
 
-use crate::UNKNOWN;
+use crate::fed::Fed;
 use abi::action::CAction;
 use abi::config::CSettings;
 use abi_avr_config::CAvrConfig;
 use abi_messages::{CEnvelope, Envelope};
-use abi_values::refusal_out;
 use avr_config::AvrConfigSequencer;
 use protocol::{RadarCal, Refusal};
 use sequence::Answer;
@@ -23,25 +23,16 @@ pub struct CAvrConfigFed {
     pub seq: CAvrConfig,
 }
 
-impl From<Answer<AvrConfigSequencer>> for CAvrConfigFed {
+// C takes no record with a type parameter.
+impl From<Fed<CAvrConfig>> for CAvrConfigFed {
     ghost from_gives = { λ fed r. r ≡ avr_config_fed fed };
 
-    fn from(fed: Answer<AvrConfigSequencer>) -> CAvrConfigFed {
+    fn from(fed: Fed<CAvrConfig>) -> CAvrConfigFed {
         CAvrConfigFed {
-            refusal: refusal_out(fed.outcome),
-            action: fed.outcome.unwrap_or(None).into(),
-            seq: fed.seq.into(),
+            refusal: fed.refusal,
+            action: fed.action,
+            seq: fed.seq,
         }
-    }
-}
-
-fn declined(seq: CAvrConfig) -> CAvrConfigFed
-    ensures { result ≡ avr_config_declined seq }
-{
-    CAvrConfigFed {
-        refusal: UNKNOWN,
-        action: CAction::none(),
-        seq,
     }
 }
 
@@ -73,14 +64,15 @@ pub extern "C" fn wigtalom_avr_config_new(settings: CSettings) -> CAvrConfigFed
 {
     let none = AvrConfigSequencer::new(AvrSettings::mode_only(0)).seq;
     if MAX_PARAMS < settings.len {
-        return Answer::refused(Refusal::TooManyParams, none).into();
+        return Fed::<CAvrConfig>::from(Answer::refused(Refusal::TooManyParams, none)).into();
     }
     match AvrSettings::try_from(settings) {
-        Ok(settings) => AvrConfigSequencer::new(settings).into(),
-        Err(_) => declined(none.into()),
+        Ok(settings) => Fed::<CAvrConfig>::from(AvrConfigSequencer::new(settings)).into(),
+        Err(_) => Fed::declined(none.into()).into(),
     }
 }
 
+// C calls a function that takes no type parameter, and so each sequence has its own.
 #[unsafe(no_mangle)]
 pub extern "C" fn wigtalom_avr_config_feed(
     seq: CAvrConfig,
@@ -91,8 +83,8 @@ pub extern "C" fn wigtalom_avr_config_feed(
     ensures { result ≡ avr_config_feed seq env text.now payload.now }
 {
     let (Ok(open), Ok(env)) = (AvrConfigSequencer::try_from(seq), Envelope::try_from(env)) else {
-        return declined(seq);
+        return Fed::declined(seq).into();
     };
-    open.feed(env.src, env.type_id, env.message, text, payload)
-        .into()
+    let fed = open.feed(env.src, env.type_id, env.message, text, payload);
+    Fed::answered(fed, seq).into()
 }

@@ -1,15 +1,13 @@
-// Disarm.
+// Disarm. C calls no function and takes no record with a type parameter, so what is alike in the
+// files of other sequences stands here again.
 ghost use Rattle.std.specs.Prelude.{◌≡◌};
-ghost use Rattle.disarm.specs.Answers.{begun};
-ghost use Rattle.host.specs.Untimed.{disarm_fed, disarm_declined, disarm_feed};
+ghost use Rattle.host.specs.Untimed.{disarm_fed, disarm_feed, disarm_new};
 
-use crate::UNKNOWN;
+use crate::fed::Fed;
 use abi::action::CAction;
 use abi_disarm::CDisarm;
 use abi_messages::{CEnvelope, Envelope};
-use abi_values::refusal_out;
 use disarm::DisarmSequencer;
-use sequence::Answer;
 
 #[repr(C)]
 #[derive(Clone, Copy)]
@@ -19,35 +17,27 @@ pub struct CDisarmFed {
     pub seq: CDisarm,
 }
 
-impl From<Answer<DisarmSequencer>> for CDisarmFed {
+// C takes no record with a type parameter.
+impl From<Fed<CDisarm>> for CDisarmFed {
     ghost from_gives = { λ fed r. r ≡ disarm_fed fed };
 
-    fn from(fed: Answer<DisarmSequencer>) -> CDisarmFed {
+    fn from(fed: Fed<CDisarm>) -> CDisarmFed {
         CDisarmFed {
-            refusal: refusal_out(fed.outcome),
-            action: fed.outcome.unwrap_or(None).into(),
-            seq: fed.seq.into(),
+            refusal: fed.refusal,
+            action: fed.action,
+            seq: fed.seq,
         }
-    }
-}
-
-fn declined(seq: CDisarm) -> CDisarmFed
-    ensures { result ≡ disarm_declined seq }
-{
-    CDisarmFed {
-        refusal: UNKNOWN,
-        action: CAction::none(),
-        seq,
     }
 }
 
 #[unsafe(no_mangle)]
 pub extern "C" fn wigtalom_disarm_new() -> CDisarmFed
-    ensures { result ≡ disarm_fed begun }
+    ensures { result ≡ disarm_new }
 {
-    DisarmSequencer::new().into()
+    Fed::<CDisarm>::from(DisarmSequencer::new()).into()
 }
 
+// C calls a function that takes no type parameter, and so each sequence has its own.
 #[unsafe(no_mangle)]
 pub extern "C" fn wigtalom_disarm_feed(
     seq: CDisarm,
@@ -58,8 +48,8 @@ pub extern "C" fn wigtalom_disarm_feed(
     ensures { result ≡ disarm_feed seq env text.now payload.now }
 {
     let (Ok(open), Ok(env)) = (DisarmSequencer::try_from(seq), Envelope::try_from(env)) else {
-        return declined(seq);
+        return Fed::declined(seq).into();
     };
-    open.feed(env.src, env.type_id, env.message, text, payload)
-        .into()
+    let fed = open.feed(env.src, env.type_id, env.message, text, payload);
+    Fed::answered(fed, seq).into()
 }

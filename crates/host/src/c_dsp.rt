@@ -1,16 +1,16 @@
-// The DSP start-up.
+// The DSP start-up. C calls no function and takes no record with a type parameter, so what is alike in the
+// files of other sequences stands here again.
 ghost use Rattle.std.specs.Prelude.{◌≡◌};
-ghost use Rattle.dsp.specs.Answers.{begun};
-ghost use Rattle.host.specs.Timed.{dsp_fed, dsp_declined, dsp_feed, dsp_check, dsp_sync, no_dsp_result, dsp_finished, dsp_result, dsp_take};
+ghost use Rattle.host.specs.Timed.{dsp_fed, dsp_feed, dsp_check, dsp_sync, no_dsp_result, dsp_finished, dsp_result, dsp_take, dsp_new};
 
 use crate::UNKNOWN;
+use crate::fed::Fed;
 use abi::action::CAction;
 use abi_dsp::{CDsp, COptionDspQueryResp, COptionNack};
 use abi_messages::{CDspStatus, CEnvelope, Envelope};
-use abi_values::{model_out, refusal_out};
+use abi_values::model_out;
 use dsp::{DspSequencer, DspSync};
 use protocol::{ConfigResp, DevInfoResp, ProdInfoResp, Refusal, Stored};
-use sequence::Answer;
 
 #[repr(C)]
 #[derive(Clone, Copy)]
@@ -48,25 +48,16 @@ pub struct CDspTaken {
     pub seq: CDsp,
 }
 
-impl From<Answer<DspSequencer>> for CDspFed {
+// C takes no record with a type parameter.
+impl From<Fed<CDsp>> for CDspFed {
     ghost from_gives = { λ fed r. r ≡ dsp_fed fed };
 
-    fn from(fed: Answer<DspSequencer>) -> CDspFed {
+    fn from(fed: Fed<CDsp>) -> CDspFed {
         CDspFed {
-            refusal: refusal_out(fed.outcome),
-            action: fed.outcome.unwrap_or(None).into(),
-            seq: fed.seq.into(),
+            refusal: fed.refusal,
+            action: fed.action,
+            seq: fed.seq,
         }
-    }
-}
-
-fn declined(seq: CDsp) -> CDspFed
-    ensures { result ≡ dsp_declined seq }
-{
-    CDspFed {
-        refusal: UNKNOWN,
-        action: CAction::none(),
-        seq,
     }
 }
 
@@ -74,6 +65,7 @@ impl From<DspSync> for CDspSync {
     ghost from_gives = { λ sync r. r ≡ dsp_sync sync };
 
     fn from(sync: DspSync) -> CDspSync {
+        // By a variable: the borrow checker refuses this field, which is an array, straight in the literal.
         let prod_info = sync.prod_info;
         CDspSync {
             status: sync.status.into(),
@@ -88,7 +80,7 @@ impl From<DspSync> for CDspSync {
     }
 }
 
-// Beside a refusal stands what a new start-up has.
+// Beside a refusal stands what a new start-up has; each start-up has replies and a record of its own.
 fn no_result(refusal: u8) -> CDspFinished
     ensures { result ≡ no_dsp_result refusal }
 {
@@ -115,11 +107,12 @@ impl From<Result<DspSync, Refusal>> for CDspFinished {
 
 #[unsafe(no_mangle)]
 pub extern "C" fn wigtalom_dsp_new() -> CDspFed
-    ensures { result ≡ dsp_fed begun }
+    ensures { result ≡ dsp_new }
 {
-    DspSequencer::new().into()
+    Fed::<CDsp>::from(DspSequencer::new()).into()
 }
 
+// C calls a function that takes no type parameter, and so each sequence has its own.
 #[unsafe(no_mangle)]
 pub extern "C" fn wigtalom_dsp_feed(
     seq: CDsp,
@@ -131,9 +124,9 @@ pub extern "C" fn wigtalom_dsp_feed(
     ensures { result ≡ dsp_feed seq env text.now payload.now now }
 {
     let (Ok(open), Ok(env)) = (DspSequencer::try_from(seq), Envelope::try_from(env)) else {
-        return declined(seq);
+        return Fed::declined(seq).into();
     };
-    open.feed(
+    let fed = open.feed(
         env.src,
         env.type_id,
         env.message,
@@ -141,8 +134,8 @@ pub extern "C" fn wigtalom_dsp_feed(
         text,
         payload,
         now,
-    )
-    .into()
+    );
+    Fed::answered(fed, seq).into()
 }
 
 #[unsafe(no_mangle)]
@@ -150,8 +143,8 @@ pub extern "C" fn wigtalom_dsp_check(seq: CDsp, now: u64) -> CDspFed
     ensures { result ≡ dsp_check seq now }
 {
     match DspSequencer::try_from(seq) {
-        Ok(open) => open.check_timeout(now).into(),
-        Err(_) => declined(seq),
+        Ok(open) => Fed::answered(open.check_timeout(now), seq).into(),
+        Err(_) => Fed::declined(seq).into(),
     }
 }
 

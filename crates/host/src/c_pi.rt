@@ -1,16 +1,15 @@
-// The Pi start-up.
+// The Pi start-up. C calls no function and takes no record with a type parameter, so what is alike in the
+// files of other sequences stands here again.
 ghost use Rattle.std.specs.Prelude.{◌≡◌};
-ghost use Rattle.pi.specs.Answers.{begun};
-ghost use Rattle.host.specs.Untimed.{pi_fed, pi_declined, pi_feed, no_pi_result, pi_finished, pi_result};
+ghost use Rattle.host.specs.Untimed.{pi_fed, pi_feed, no_pi_result, pi_finished, pi_result, pi_new};
 
 use crate::UNKNOWN;
+use crate::fed::Fed;
 use abi::action::CAction;
 use abi_messages::{CEnvelope, Envelope};
 use abi_pi::CPi;
-use abi_values::refusal_out;
 use pi::{PiSequencer, PiSync};
 use protocol::Refusal;
-use sequence::Answer;
 
 #[repr(C)]
 #[derive(Clone, Copy)]
@@ -27,29 +26,20 @@ pub struct CPiFinished {
     pub sync: PiSync,
 }
 
-impl From<Answer<PiSequencer>> for CPiFed {
+// C takes no record with a type parameter.
+impl From<Fed<CPi>> for CPiFed {
     ghost from_gives = { λ fed r. r ≡ pi_fed fed };
 
-    fn from(fed: Answer<PiSequencer>) -> CPiFed {
+    fn from(fed: Fed<CPi>) -> CPiFed {
         CPiFed {
-            refusal: refusal_out(fed.outcome),
-            action: fed.outcome.unwrap_or(None).into(),
-            seq: fed.seq.into(),
+            refusal: fed.refusal,
+            action: fed.action,
+            seq: fed.seq,
         }
     }
 }
 
-fn declined(seq: CPi) -> CPiFed
-    ensures { result ≡ pi_declined seq }
-{
-    CPiFed {
-        refusal: UNKNOWN,
-        action: CAction::none(),
-        seq,
-    }
-}
-
-// Beside a refusal stands what a new start-up has.
+// Beside a refusal stands what a new start-up has; each start-up has replies and a record of its own.
 fn no_result(refusal: u8) -> CPiFinished
     ensures { result ≡ no_pi_result refusal }
 {
@@ -73,20 +63,21 @@ impl From<Result<PiSync, Refusal>> for CPiFinished {
 
 #[unsafe(no_mangle)]
 pub extern "C" fn wigtalom_pi_new() -> CPiFed
-    ensures { result ≡ pi_fed begun }
+    ensures { result ≡ pi_new }
 {
-    PiSequencer::new().into()
+    Fed::<CPi>::from(PiSequencer::new()).into()
 }
 
+// C calls a function that takes no type parameter, and so each sequence has its own.
 #[unsafe(no_mangle)]
 pub extern "C" fn wigtalom_pi_feed(seq: CPi, env: CEnvelope, text: &[u8], payload: &[u8]) -> CPiFed
     ensures { result ≡ pi_feed seq env text.now payload.now }
 {
     let (Ok(open), Ok(env)) = (PiSequencer::try_from(seq), Envelope::try_from(env)) else {
-        return declined(seq);
+        return Fed::declined(seq).into();
     };
-    open.feed(env.src, env.type_id, env.message, text, payload)
-        .into()
+    let fed = open.feed(env.src, env.type_id, env.message, text, payload);
+    Fed::answered(fed, seq).into()
 }
 
 // The result, once Done; beside a refusal an empty one.

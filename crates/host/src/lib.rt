@@ -1,6 +1,6 @@
 // The host's library: every call of the six sequences, the model and the single sends, as functions that C or Rust can link
-// (`rt lib`). Each answers as the call that it stands for; numbers that no case has are refused with 21, which sends nothing and
-// changes nothing.
+// (`rt lib`). Each answers as the call that it stands for; numbers that no case has are refused with 21. A refused call sends nothing, and
+// gives back the very state that it was handed.
 #![tactic(auto)]
 
 mod c_arm;
@@ -9,6 +9,7 @@ mod c_avr_config;
 mod c_disarm;
 mod c_dsp;
 mod c_pi;
+mod fed;
 mod sends;
 
 // A number that no case has: a kind, a device, a model, a step, a layout or a format.

@@ -61,6 +61,6 @@ pub extern "C" fn wigtalom_keepalive(model: u8) -> CKeepalive
     let polls = sends::keepalive_actions_for(model);
     CKeepalive {
         refusal: 0,
-        actions: [polls[0].into(), polls[1].into(), polls[2].into()],
+        actions: polls.map(CAction::from),
     }
 }

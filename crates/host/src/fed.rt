@@ -1,0 +1,59 @@
+// What a call of a sequence answers, of whichever of the six: C takes no record with a type parameter, so each takes it over into its own.
+ghost use Rattle.std.specs.Prelude.{◌≡◌};
+ghost use Rattle.abi_values.specs.Numbers.{refusal_out};
+ghost use Rattle.host.specs.Sends.{sent};
+ghost use Rattle.host.specs.Fed.{back, declined};
+
+use crate::UNKNOWN;
+use abi::action::CAction;
+use abi_values::refusal_out;
+use sequence::Answer;
+
+#[derive(Clone, Copy)]
+pub struct Fed<C> {
+    pub refusal: u8,
+    pub action: CAction,
+    pub seq: C,
+}
+
+// Of a call that begins a sequence.
+impl<S: Copy, C: From<S>> From<Answer<S>> for Fed<C> {
+    ghost from_gives = { λ answer r. (r.refusal ≡ refusal_out answer.outcome) × (r.action ≡ sent answer.outcome) × C.from_gives answer.seq r.seq };
+
+    fn from(answer: Answer<S>) -> Fed<C> {
+        Fed {
+            refusal: refusal_out(answer.outcome),
+            action: answer.outcome.unwrap_or(None).into(),
+            seq: answer.seq.into(),
+        }
+    }
+}
+
+impl<C: Copy> Fed<C> {
+    // Of a call of the state that was handed in. A refusal changes nothing: that very state goes back, with what stands in it beside an
+    // absent record.
+    pub fn answered<S: Copy>(answer: Answer<S>, handed: C) -> Fed<C>
+    where
+        C: From<S>,
+        ensures refusal { result.refusal ≡ refusal_out answer.outcome }
+        ensures action { result.action ≡ sent answer.outcome }
+        ensures seq { (s : C) × C.from_gives answer.seq s × (result.seq ≡ back answer.outcome s handed) }
+    {
+        let fed = Fed::from(answer);
+        match answer.outcome {
+            Ok(_) => fed,
+            Err(_) => Fed { seq: handed, ..fed },
+        }
+    }
+
+    // A number in it, or beside it, is of no case: nothing is sent, and the state is the one handed in.
+    pub fn declined(handed: C) -> Fed<C>
+        ensures { result ≡ declined handed }
+    {
+        Fed {
+            refusal: UNKNOWN,
+            action: CAction::none(),
+            seq: handed,
+        }
+    }
+}
