@@ -389,7 +389,33 @@ fn papers_and_tables_agree() {
         rows.map(|row| (row[0].to_string(), row[1].to_string()))
             .collect()
     };
-    assert_eq!(rows("REFUSALS"), papers::refusals());
+    // The refusals: each case with its number, where they are declared, and with its reason, in the `match` over them.
+    let declared = repository("crates/protocol/src/lib.rt");
+    let (_, cases) = declared.split_once("pub enum Refusal {\n").unwrap();
+    let (cases, _) = cases.split_once("\n}").unwrap();
+    let numbers: Vec<(&str, &str)> = cases
+        .lines()
+        .map(|line| line.trim().trim_end_matches(',').split_once(" = ").unwrap())
+        .collect();
+    let lines = source.lines();
+    let reasons: Vec<(&str, &str)> = lines
+        .filter_map(|line| line.trim().strip_prefix("Refusal::")?.split_once(" => "))
+        .map(|(case, given)| (case, given.trim_end_matches(',').trim_matches('"')))
+        .collect();
+    assert_eq!(reasons.len(), numbers.len());
+    let refusals: Vec<(String, String)> = numbers
+        .iter()
+        .zip(&reasons)
+        .map(|((case, number), (same, reason))| {
+            assert_eq!(case, same);
+            assert!(
+                source.contains(&format!("\n    Refusal::{case},\n")),
+                "{case}"
+            );
+            (number.to_string(), reason.to_string())
+        })
+        .collect();
+    assert_eq!(refusals, papers::refusals());
     let sequences = ["DSP", "AVR", "PI", "SETTINGS", "DISARM", "ARM"];
     assert_eq!(sequences.len(), Which::ALL.len());
     for (name, which) in sequences.iter().zip(Which::ALL) {

@@ -5,14 +5,32 @@ use arm::ArmSequencer;
 use arm_steps::ArmStep;
 use device::model::DeviceModel;
 use reading::{Calls, Feed};
-use std::io;
 use std::io::Write;
+use std::{fmt, io};
 use streams::answers::Text;
-use streams::running::{Sequence, Steps};
+use streams::running::{FEED_ALONE, Sequence, Steps, feed_by};
 
 #[derive(Clone, Copy)]
 pub struct ArmCalls {
     arm: ArmSequencer,
+}
+
+// A step as it is written: its name, with its fields.
+#[derive(Clone, Copy)]
+pub struct Step(ArmStep);
+
+impl fmt::Display for Step {
+    fn fmt<W: fmt::Write>(&self, f: &mut fmt::Formatter<W>) -> fmt::Result {
+        f.write_str(match self.0 {
+            ArmStep::WaitDspStatus => "WaitDspStatus",
+            ArmStep::WaitAvrStatus => "WaitAvrStatus",
+            ArmStep::WaitArmAck => "WaitArmAck",
+            ArmStep::WaitPiAndArmed { got_pi, got_armed } => {
+                return write!(f, "WaitPiAndArmed got_pi={got_pi} got_armed={got_armed}");
+            }
+            ArmStep::Done => "Done",
+        })
+    }
 }
 
 impl ArmCalls {
@@ -27,45 +45,29 @@ impl ArmCalls {
 impl Steps for ArmCalls {
     type Sequencer = ArmSequencer;
 
+    type Step = Step;
+
     fn sequencer(&mut self) -> &mut ArmSequencer {
         &mut self.arm
+    }
+
+    fn step(&self) -> Step {
+        Step(self.arm.step)
     }
 
     fn entry(&self) -> Option<usize> {
         None
     }
-
-    fn write_step(&self, out: &mut Text) -> io::Result<()> {
-        let name = match self.arm.step {
-            ArmStep::WaitDspStatus => "WaitDspStatus",
-            ArmStep::WaitAvrStatus => "WaitAvrStatus",
-            ArmStep::WaitArmAck => "WaitArmAck",
-            ArmStep::WaitPiAndArmed { got_pi, got_armed } => {
-                return write!(out, "WaitPiAndArmed got_pi={got_pi} got_armed={got_armed}");
-            }
-            ArmStep::Done => "Done",
-        };
-        out.write_all(name.as_bytes())
-    }
 }
 
 impl Sequence for ArmCalls {
     const CALLS: Option<Calls> = Some(Calls {
-        check: false,
-        result: false,
-        take: false,
         retries: true,
+        ..FEED_ALONE
     });
 
     fn feed(&mut self, feed: &Feed<'_>, out: &mut Text) -> io::Result<()> {
-        let fed = self.arm.feed(
-            feed.src,
-            feed.type_id,
-            feed.message,
-            feed.text,
-            feed.payload,
-        );
-        self.go_on(&fed, out)
+        feed_by(self, feed, ArmSequencer::feed, out)
     }
 
     fn retries(&self, out: &mut Text) -> io::Result<()> {

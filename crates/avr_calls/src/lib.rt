@@ -7,10 +7,10 @@ use avr::AvrSequencer;
 use avr_table::AvrStep;
 use device::model::DeviceModel;
 use reading::{Calls, Feed};
-use std::io;
 use std::io::Write;
+use std::{fmt, io};
 use streams::answers::Text;
-use streams::running::{Sequence, Steps};
+use streams::running::{FEED_ALONE, Sequence, Steps};
 use writing::send;
 
 #[derive(Clone, Copy)]
@@ -18,21 +18,27 @@ pub struct AvrCalls {
     avr: AvrSequencer,
 }
 
-fn name(step: AvrStep) -> &'static str {
-    match step {
-        AvrStep::WaitStatus1 => "WaitStatus1",
-        AvrStep::WaitStatus2 => "WaitStatus2",
-        AvrStep::WaitDevInfo1 => "WaitDevInfo1",
-        AvrStep::WaitDevInfo2 => "WaitDevInfo2",
-        AvrStep::WaitParam0C => "WaitParam0C",
-        AvrStep::WaitParam0D => "WaitParam0D",
-        AvrStep::WaitConfig => "WaitConfig",
-        AvrStep::WaitFactoryCal => "WaitFactoryCal",
-        AvrStep::WaitIfCal => "WaitIfCal",
-        AvrStep::WaitAvrConfig => "WaitAvrConfig",
-        AvrStep::WaitParam64 => "WaitParam64",
-        AvrStep::WaitTimeSync => "WaitTimeSync",
-        AvrStep::Done => "Done",
+// A step as it is written: its name.
+#[derive(Clone, Copy)]
+pub struct Step(AvrStep);
+
+impl fmt::Display for Step {
+    fn fmt<W: fmt::Write>(&self, f: &mut fmt::Formatter<W>) -> fmt::Result {
+        f.write_str(match self.0 {
+            AvrStep::WaitStatus1 => "WaitStatus1",
+            AvrStep::WaitStatus2 => "WaitStatus2",
+            AvrStep::WaitDevInfo1 => "WaitDevInfo1",
+            AvrStep::WaitDevInfo2 => "WaitDevInfo2",
+            AvrStep::WaitParam0C => "WaitParam0C",
+            AvrStep::WaitParam0D => "WaitParam0D",
+            AvrStep::WaitConfig => "WaitConfig",
+            AvrStep::WaitFactoryCal => "WaitFactoryCal",
+            AvrStep::WaitIfCal => "WaitIfCal",
+            AvrStep::WaitAvrConfig => "WaitAvrConfig",
+            AvrStep::WaitParam64 => "WaitParam64",
+            AvrStep::WaitTimeSync => "WaitTimeSync",
+            AvrStep::Done => "Done",
+        })
     }
 }
 
@@ -48,17 +54,19 @@ impl AvrCalls {
 impl Steps for AvrCalls {
     type Sequencer = AvrSequencer;
 
+    type Step = Step;
+
     fn sequencer(&mut self) -> &mut AvrSequencer {
         &mut self.avr
+    }
+
+    fn step(&self) -> Step {
+        Step(self.avr.state.step)
     }
 
     // Each step has one entry.
     fn entry(&self) -> Option<usize> {
         Some(self.avr.state.step as usize)
-    }
-
-    fn write_step(&self, out: &mut Text) -> io::Result<()> {
-        out.write_all(name(self.avr.state.step).as_bytes())
     }
 }
 
@@ -66,10 +74,10 @@ impl Sequence for AvrCalls {
     const CALLS: Option<Calls> = Some(Calls {
         check: true,
         result: true,
-        take: false,
-        retries: false,
+        ..FEED_ALONE
     });
 
+    // Not by `feed_by`: it hands on the numbers and the clock, too.
     fn feed(&mut self, feed: &Feed<'_>, out: &mut Text) -> io::Result<()> {
         let fed = self.avr.feed(
             feed.src,
@@ -90,12 +98,7 @@ impl Sequence for AvrCalls {
     }
 
     fn result(&self, out: &mut Text) -> io::Result<()> {
-        let finished = self.avr.into_result();
-        send::outcome(out, &finished)?;
-        match finished {
-            Ok(sync) => stored::sync(out, &sync),
-            Err(_) => Ok(()),
-        }
+        send::result(out, &self.avr.into_result(), stored::sync)
     }
 
     fn state(&self, out: &mut Text) -> io::Result<()> {

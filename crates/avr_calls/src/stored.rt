@@ -21,25 +21,15 @@ fn status<W: Write>(out: &mut W, s: &AvrStatus) -> io::Result<()> {
     )
 }
 
-fn optional_status<W: Write>(out: &mut W, s: &Option<AvrStatus>) -> io::Result<()> {
-    match s {
-        Some(s) => status(out, s),
-        None => fields::none(out, "status"),
-    }
-}
-
 // A reply that is a payload alone.
 fn payload<W: Write>(out: &mut W, name: &str, payload: Option<&Stored>) -> io::Result<()> {
-    match payload {
-        Some(payload) => {
-            write!(out, " {name}=payload=")?;
-            write::digits_and_text(out, fields::held(payload))
-        }
-        None => fields::none(out, name),
-    }
+    fields::optional(out, name, &payload, |out, payload| {
+        write!(out, " {name}=payload=")?;
+        write::digits_and_text(out, payload.as_slice())
+    })
 }
 
-// The replies behind the parameters.
+// The replies behind the parameters: of what is stored and of the result, which are different structs.
 fn last_replies<W: Write>(
     out: &mut W,
     factory_cal: &Option<CalDataResp>,
@@ -60,9 +50,9 @@ pub fn sync<W: Write>(out: &mut W, s: &AvrSync) -> io::Result<()> {
 }
 
 fn replies<W: Write>(out: &mut W, r: &AvrReplies) -> io::Result<()> {
-    optional_status(out, &r.status)?;
-    records::optional_dev_info(out, &r.dev_info)?;
-    records::optional_config(out, &r.config)?;
+    fields::optional(out, "status", &r.status, status)?;
+    fields::optional(out, "dev_info", &r.dev_info, records::dev_info)?;
+    fields::optional(out, "params", &r.config, records::config)?;
     last_replies(out, &r.factory_cal, &r.if_cal, &r.avr_config)
 }
 
@@ -70,6 +60,6 @@ fn replies<W: Write>(out: &mut W, r: &AvrReplies) -> io::Result<()> {
 pub fn state<W: Write>(out: &mut W, avr: &AvrSequencer) -> io::Result<()> {
     write!(out, "; state last={}", avr.last)?;
     replies(out, &avr.state.replies)?;
-    records::instant(out, "cal_deadline", avr.state.cal_deadline)?;
-    records::instant(out, "repoll_at", avr.state.repoll_at)
+    records::instant(out, "cal_deadline", &avr.state.cal_deadline)?;
+    records::instant(out, "repoll_at", &avr.state.repoll_at)
 }

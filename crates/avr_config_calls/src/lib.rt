@@ -7,14 +7,37 @@ use avr_config::AvrConfigSequencer;
 use avr_config_steps::AvrConfigStep;
 use reading::{Calls, Feed};
 use settings::AvrSettings;
-use std::io;
 use std::io::Write;
+use std::{fmt, io};
 use streams::answers::Text;
-use streams::running::{Sequence, Steps};
+use streams::running::{FEED_ALONE, Sequence, Steps, feed_by};
 
 #[derive(Clone, Copy)]
 pub struct AvrConfigCalls {
     run: AvrConfigSequencer,
+}
+
+// A step as it is written: its name, with its fields.
+#[derive(Clone, Copy)]
+pub struct Step(AvrConfigStep);
+
+impl fmt::Display for Step {
+    fn fmt<W: fmt::Write>(&self, f: &mut fmt::Formatter<W>) -> fmt::Result {
+        f.write_str(match self.0 {
+            AvrConfigStep::WaitInitGateAck => "WaitInitGateAck",
+            AvrConfigStep::WaitParamAck { param_idx } => {
+                return write!(f, "WaitParamAck param_idx={param_idx}");
+            }
+            AvrConfigStep::WaitParamCommitAck { param_idx } => {
+                return write!(f, "WaitParamCommitAck param_idx={param_idx}");
+            }
+            AvrConfigStep::WaitModeEcho => "WaitModeEcho",
+            AvrConfigStep::WaitModeCommitAck => "WaitModeCommitAck",
+            AvrConfigStep::WaitRadarCalEcho => "WaitRadarCalEcho",
+            AvrConfigStep::WaitRadarCalCommitAck => "WaitRadarCalCommitAck",
+            AvrConfigStep::Done => "Done",
+        })
+    }
 }
 
 impl AvrConfigCalls {
@@ -30,11 +53,18 @@ impl AvrConfigCalls {
 impl Steps for AvrConfigCalls {
     type Sequencer = AvrConfigSequencer;
 
+    type Step = Step;
+
     fn sequencer(&mut self) -> &mut AvrConfigSequencer {
         &mut self.run
     }
 
-    // Each of the parameters, which are few, has two entries, between the first entry and that of the mode.
+    fn step(&self) -> Step {
+        Step(self.run.step)
+    }
+
+    // Each of the parameters, which are few, has two entries, between the first entry and that of the mode. By a `match`, since a step with a
+    // field has no `as`.
     fn entry(&self) -> Option<usize> {
         let all = self.run.settings.len;
         let (params, more) = match self.run.step {
@@ -49,43 +79,13 @@ impl Steps for AvrConfigCalls {
         };
         Some(params.saturating_mul(2).saturating_add(more))
     }
-
-    fn write_step(&self, out: &mut Text) -> io::Result<()> {
-        let name = match self.run.step {
-            AvrConfigStep::WaitInitGateAck => "WaitInitGateAck",
-            AvrConfigStep::WaitParamAck { param_idx } => {
-                return write!(out, "WaitParamAck param_idx={param_idx}");
-            }
-            AvrConfigStep::WaitParamCommitAck { param_idx } => {
-                return write!(out, "WaitParamCommitAck param_idx={param_idx}");
-            }
-            AvrConfigStep::WaitModeEcho => "WaitModeEcho",
-            AvrConfigStep::WaitModeCommitAck => "WaitModeCommitAck",
-            AvrConfigStep::WaitRadarCalEcho => "WaitRadarCalEcho",
-            AvrConfigStep::WaitRadarCalCommitAck => "WaitRadarCalCommitAck",
-            AvrConfigStep::Done => "Done",
-        };
-        out.write_all(name.as_bytes())
-    }
 }
 
 impl Sequence for AvrConfigCalls {
-    const CALLS: Option<Calls> = Some(Calls {
-        check: false,
-        result: false,
-        take: false,
-        retries: false,
-    });
+    const CALLS: Option<Calls> = Some(FEED_ALONE);
 
     fn feed(&mut self, feed: &Feed<'_>, out: &mut Text) -> io::Result<()> {
-        let fed = self.run.feed(
-            feed.src,
-            feed.type_id,
-            feed.message,
-            feed.text,
-            feed.payload,
-        );
-        self.go_on(&fed, out)
+        feed_by(self, feed, AvrConfigSequencer::feed, out)
     }
 
     fn state(&self, out: &mut Text) -> io::Result<()> {

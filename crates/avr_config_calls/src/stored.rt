@@ -5,15 +5,12 @@ use std::io;
 use std::io::Write;
 use writing::{fields, send};
 
-fn radar_cal<W: Write>(out: &mut W, cal: &Option<RadarCal>) -> io::Result<()> {
-    match cal {
-        Some(cal) => write!(
-            out,
-            " radar_cal=range_mm={} height_mm={}",
-            cal.range_mm, cal.height_mm
-        ),
-        None => fields::none(out, "radar_cal"),
-    }
+fn radar_cal<W: Write>(out: &mut W, cal: &RadarCal) -> io::Result<()> {
+    write!(
+        out,
+        " radar_cal=range_mm={} height_mm={}",
+        cal.range_mm, cal.height_mm
+    )
 }
 
 // Every stored field.
@@ -22,5 +19,5 @@ pub fn state<W: Write>(out: &mut W, s: &AvrSettings) -> io::Result<()> {
     for param in s.params.iter().take(s.len) {
         send::param(out, *param)?;
     }
-    radar_cal(out, &s.radar_cal)
+    fields::optional(out, "radar_cal", &s.radar_cal, radar_cal)
 }

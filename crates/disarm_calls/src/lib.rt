@@ -3,22 +3,28 @@
 
 use disarm::{DisarmSequencer, DisarmStep};
 use reading::{Calls, Feed};
-use std::io;
 use std::io::Write;
+use std::{fmt, io};
 use streams::answers::Text;
-use streams::running::{Sequence, Steps};
+use streams::running::{FEED_ALONE, Sequence, Steps, feed_by};
 
 #[derive(Clone, Copy)]
 pub struct DisarmCalls {
     disarm: DisarmSequencer,
 }
 
-fn name(step: DisarmStep) -> &'static str {
-    match step {
-        DisarmStep::WaitAck => "WaitAck",
-        DisarmStep::WaitModeReset => "WaitModeReset",
-        DisarmStep::WaitStateIdle => "WaitStateIdle",
-        DisarmStep::Done => "Done",
+// A step as it is written: its name.
+#[derive(Clone, Copy)]
+pub struct Step(DisarmStep);
+
+impl fmt::Display for Step {
+    fn fmt<W: fmt::Write>(&self, f: &mut fmt::Formatter<W>) -> fmt::Result {
+        f.write_str(match self.0 {
+            DisarmStep::WaitAck => "WaitAck",
+            DisarmStep::WaitModeReset => "WaitModeReset",
+            DisarmStep::WaitStateIdle => "WaitStateIdle",
+            DisarmStep::Done => "Done",
+        })
     }
 }
 
@@ -36,37 +42,27 @@ impl DisarmCalls {
 impl Steps for DisarmCalls {
     type Sequencer = DisarmSequencer;
 
+    type Step = Step;
+
     fn sequencer(&mut self) -> &mut DisarmSequencer {
         &mut self.disarm
+    }
+
+    fn step(&self) -> Step {
+        Step(self.disarm.step)
     }
 
     // Each step has one entry.
     fn entry(&self) -> Option<usize> {
         Some(self.disarm.step as usize)
     }
-
-    fn write_step(&self, out: &mut Text) -> io::Result<()> {
-        out.write_all(name(self.disarm.step).as_bytes())
-    }
 }
 
 impl Sequence for DisarmCalls {
-    const CALLS: Option<Calls> = Some(Calls {
-        check: false,
-        result: false,
-        take: false,
-        retries: false,
-    });
+    const CALLS: Option<Calls> = Some(FEED_ALONE);
 
     fn feed(&mut self, feed: &Feed<'_>, out: &mut Text) -> io::Result<()> {
-        let fed = self.disarm.feed(
-            feed.src,
-            feed.type_id,
-            feed.message,
-            feed.text,
-            feed.payload,
-        );
-        self.go_on(&fed, out)
+        feed_by(self, feed, DisarmSequencer::feed, out)
     }
 
     // It stores nothing but its step.

@@ -6,10 +6,10 @@ mod stored;
 use dsp::DspSequencer;
 use dsp_table::DspStep;
 use reading::{Calls, Feed};
-use std::io;
 use std::io::Write;
+use std::{fmt, io};
 use streams::answers::Text;
-use streams::running::{Sequence, Steps};
+use streams::running::{FEED_ALONE, Sequence, Steps};
 use writing::send;
 
 #[derive(Clone, Copy)]
@@ -17,17 +17,23 @@ pub struct DspCalls {
     dsp: DspSequencer,
 }
 
-fn name(step: DspStep) -> &'static str {
-    match step {
-        DspStep::WaitStatus => "WaitStatus",
-        DspStep::WaitDspQuery => "WaitDspQuery",
-        DspStep::WaitDevInfo => "WaitDevInfo",
-        DspStep::WaitProdInfo0 => "WaitProdInfo0",
-        DspStep::WaitProdInfo1 => "WaitProdInfo1",
-        DspStep::WaitProdInfo2 => "WaitProdInfo2",
-        DspStep::WaitConfig => "WaitConfig",
-        DspStep::WaitPowerMode => "WaitPowerMode",
-        DspStep::Done => "Done",
+// A step as it is written: its name.
+#[derive(Clone, Copy)]
+pub struct Step(DspStep);
+
+impl fmt::Display for Step {
+    fn fmt<W: fmt::Write>(&self, f: &mut fmt::Formatter<W>) -> fmt::Result {
+        f.write_str(match self.0 {
+            DspStep::WaitStatus => "WaitStatus",
+            DspStep::WaitDspQuery => "WaitDspQuery",
+            DspStep::WaitDevInfo => "WaitDevInfo",
+            DspStep::WaitProdInfo0 => "WaitProdInfo0",
+            DspStep::WaitProdInfo1 => "WaitProdInfo1",
+            DspStep::WaitProdInfo2 => "WaitProdInfo2",
+            DspStep::WaitConfig => "WaitConfig",
+            DspStep::WaitPowerMode => "WaitPowerMode",
+            DspStep::Done => "Done",
+        })
     }
 }
 
@@ -43,17 +49,19 @@ impl DspCalls {
 impl Steps for DspCalls {
     type Sequencer = DspSequencer;
 
+    type Step = Step;
+
     fn sequencer(&mut self) -> &mut DspSequencer {
         &mut self.dsp
+    }
+
+    fn step(&self) -> Step {
+        Step(self.dsp.state.step)
     }
 
     // Each step has one entry.
     fn entry(&self) -> Option<usize> {
         Some(self.dsp.state.step as usize)
-    }
-
-    fn write_step(&self, out: &mut Text) -> io::Result<()> {
-        out.write_all(name(self.dsp.state.step).as_bytes())
     }
 }
 
@@ -62,9 +70,10 @@ impl Sequence for DspCalls {
         check: true,
         result: true,
         take: true,
-        retries: false,
+        ..FEED_ALONE
     });
 
+    // Not by `feed_by`: it hands on the numbers and the clock, too.
     fn feed(&mut self, feed: &Feed<'_>, out: &mut Text) -> io::Result<()> {
         let fed = self.dsp.feed(
             feed.src,
@@ -84,12 +93,7 @@ impl Sequence for DspCalls {
     }
 
     fn result(&self, out: &mut Text) -> io::Result<()> {
-        let finished = self.dsp.into_result();
-        send::outcome(out, &finished)?;
-        match finished {
-            Ok(sync) => stored::sync(out, &sync),
-            Err(_) => Ok(()),
-        }
+        send::result(out, &self.dsp.into_result(), stored::sync)
     }
 
     fn take(&mut self, out: &mut Text) -> io::Result<()> {

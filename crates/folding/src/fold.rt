@@ -1,17 +1,21 @@
 // Lines of at most 100 columns. What is longer is folded: it goes on in further lines, which are indented.
+ghost use Rattle.std.specs.Prelude.{◌≡◌, count_by};
+ghost use Rattle.folding.specs.Columns.{takes_column};
+
 use std::io;
 use std::io::Write;
+use writing::write;
 
 pub const WIDTH: usize = 100;
 
-// So many bytes are written at once.
-const ROW: usize = 128;
-
 // A character of several bytes takes the one column of its first byte.
-fn takes_column(b: u8) -> bool {
+fn takes_column(b: u8) -> bool
+    ensures { result ≡ takes_column b }
+{
     !matches!(b, 0x80..=0xBF)
 }
 
+// As a line's reader has it, which stands in another crate than what is laid out.
 fn is_blank(b: u8) -> bool {
     matches!(b, b' ' | b'\t')
 }
@@ -26,7 +30,9 @@ fn visible(b: u8) -> u8 {
 }
 
 // The columns that bytes take.
-pub fn columns(s: &[u8]) -> usize {
+pub fn columns(s: &[u8]) -> usize
+    ensures { result ≡ count_by takes_column s.now }
+{
     s.iter().filter(|b| takes_column(**b)).count()
 }
 
@@ -34,19 +40,8 @@ pub fn blanks<W: Write>(out: &mut W, n: usize) -> io::Result<()> {
     write!(out, "{:n$}", "")
 }
 
-fn shown_row<W: Write>(out: &mut W, row: &[u8]) -> io::Result<()> {
-    let mut text = [0u8; ROW];
-    for (to, b) in text.iter_mut().zip(row) {
-        *to = visible(*b);
-    }
-    out.write_all(&text[..row.len().min(ROW)])
-}
-
 fn shown<W: Write>(out: &mut W, s: &[u8]) -> io::Result<()> {
-    for row in s.chunks(ROW) {
-        shown_row(out, row)?;
-    }
-    Ok(())
+    write::each(out, s, visible)
 }
 
 // The bytes that fit into so many columns, and what is left. They are parted at the last blank, which is left out, or behind the last comma.
@@ -55,15 +50,12 @@ fn parted(s: &[u8], width: usize) -> (&[u8], &[u8]) {
     let Some((over, _)) = columns.nth(width) else {
         return (s, &[]);
     };
-    for i in (1..=over).rev() {
-        if is_blank(s[i]) {
-            return (&s[..i], &s[i + 1..]);
-        }
-        if s[i - 1] == b',' {
-            return s.split_at(i);
-        }
+    let ends = |pair: &[u8]| matches!(pair, [b',', _] | [_, b' ' | b'\t']);
+    match s[..=over].windows(2).rposition(ends) {
+        Some(before) if is_blank(s[before + 1]) => (&s[..before + 1], &s[before + 2..]),
+        Some(before) => s.split_at(before + 1),
+        None => s.split_at(over),
     }
-    s.split_at(over)
 }
 
 // The columns from this one on, counted from 0.

@@ -1,6 +1,9 @@
 // Takes an answer apart. Its parts have a semicolon and a blank between them, the words of a part a blank. A text between bars may hold
 // either; it has a byte for each two digits before it.
 
+ghost use Rattle.std.specs.Prelude.{◌≡◌};
+ghost use Rattle.folding.specs.Apart.{is_step, outside_all, is_outside, behind};
+
 // Where the texts of an answer are, as it is gone through byte by byte: `answer.split(|b| texts.outside(*b) && *b == b';')`.
 #[derive(Clone, Copy)]
 pub struct Texts {
@@ -11,12 +14,17 @@ pub struct Texts {
 }
 
 impl Texts {
-    pub fn new() -> Texts {
+    pub fn new() -> Texts
+        ensures { result ≡ outside_all }
+    {
         Texts { digits: 0, left: 0 }
     }
 
     // Whether the next byte stands outside of them.
-    pub fn outside(&mut self, b: u8) -> bool {
+    pub fn outside(&mut self, b: u8) -> bool
+        ensures outside { result ≡ is_outside self.old }
+        ensures after { self.new ≡ behind b self.old }
+    {
         if 0 < self.left {
             self.left -= 1;
             return false;
@@ -36,7 +44,9 @@ pub fn split_once(s: &[u8], at: u8) -> Option<(&[u8], &[u8])> {
     Some((&s[..n], &s[n + 1..]))
 }
 
-pub fn is_step(s: &[u8]) -> bool {
+pub fn is_step(s: &[u8]) -> bool
+    ensures { result ≡ is_step s.now }
+{
     s.starts_with(b"Wait") || s.starts_with(b"Done")
 }
 

@@ -34,8 +34,8 @@ fn answer<R: Read + Drop, W: Write + Drop>(
             let pi = PiCalls::begin(out)?;
             begin(pi, list)
         }
-        Sequence::AvrConfig(settings) => {
-            let run = AvrConfigCalls::begin(&settings, out)?;
+        Sequence::AvrConfig => {
+            let run = AvrConfigCalls::begin(&list.lent.settings, out)?;
             begin(run, list)
         }
         Sequence::Disarm => {
@@ -66,4 +66,28 @@ pub fn replay<R: Read + Drop, W: Write + Drop>(
         next = answer(sequence, &mut list)?;
     }
     list.finish()
+}
+
+#[cfg(test)]
+mod tests {
+    use super::*;
+    use std::vec::Vec;
+
+    // All that a list needs can be had, and it is answered to its end; the answers are the Rust's.
+    #[test]
+    fn answers_a_list(rt: HostRuntime) {
+        let list =
+            b"disarm\nfeed 1000000000 Avr 0x95 ConfigAck bus_addr=0x30 acked_cmd=0x30\nno call\n";
+        let mut written = Vec::new(rt.alloc());
+        let form = Form {
+            shown: false,
+            with_state: false,
+        };
+        let bad_lines = replay(rt.alloc(), list.as_slice(), &mut written, form);
+        assert!(rt; matches!(bad_lines, Ok(1)));
+        assert!(rt;
+            written.as_slice()
+                == b"1: send Avr AvrConfigCmd arm=false; WaitAck\n2: accepted; ticked 1; no send; WaitModeReset\n3: bad line at column 1: unknown call: docs/REPLAY.md names them all\n".as_slice()
+        );
+    }
 }

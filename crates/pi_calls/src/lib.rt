@@ -7,15 +7,35 @@ mod stored;
 use pi::PiSequencer;
 use pi_table::PiStep;
 use reading::{Calls, Feed};
-use std::io;
 use std::io::Write;
+use std::{fmt, io};
 use streams::answers::Text;
-use streams::running::{Sequence, Steps};
+use streams::running::{FEED_ALONE, Sequence, Steps, feed_by};
 use writing::send;
 
 #[derive(Clone, Copy)]
 pub struct PiCalls {
     pi: PiSequencer,
+}
+
+// A step as it is written: its name, with its fields.
+#[derive(Clone, Copy)]
+pub struct Step(PiStep);
+
+impl fmt::Display for Step {
+    fn fmt<W: fmt::Write>(&self, f: &mut fmt::Formatter<W>) -> fmt::Result {
+        f.write_str(match self.0 {
+            PiStep::WaitStatus => "WaitStatus",
+            PiStep::WaitDevInfo => "WaitDevInfo",
+            PiStep::WaitParam0A => "WaitParam0A",
+            PiStep::WaitCamConfig1 => "WaitCamConfig1",
+            PiStep::WaitCamConfig2 => "WaitCamConfig2",
+            PiStep::WaitNetConfig => "WaitNetConfig",
+            PiStep::WaitNetConfigPw => "WaitNetConfigPw",
+            PiStep::WaitParams { idx } => return write!(f, "WaitParams idx={idx}"),
+            PiStep::Done => "Done",
+        })
+    }
 }
 
 impl PiCalls {
@@ -30,11 +50,17 @@ impl PiCalls {
 impl Steps for PiCalls {
     type Sequencer = PiSequencer;
 
+    type Step = Step;
+
     fn sequencer(&mut self) -> &mut PiSequencer {
         &mut self.pi
     }
 
-    // Of the last step each parameter has an entry.
+    fn step(&self) -> Step {
+        Step(self.pi.step)
+    }
+
+    // Of the last step each parameter has an entry. By a `match`, since a step with a field has no `as`.
     fn entry(&self) -> Option<usize> {
         Some(match self.pi.step {
             PiStep::WaitStatus => 0,
@@ -48,49 +74,20 @@ impl Steps for PiCalls {
             PiStep::Done => 16,
         })
     }
-
-    fn write_step(&self, out: &mut Text) -> io::Result<()> {
-        let name = match self.pi.step {
-            PiStep::WaitStatus => "WaitStatus",
-            PiStep::WaitDevInfo => "WaitDevInfo",
-            PiStep::WaitParam0A => "WaitParam0A",
-            PiStep::WaitCamConfig1 => "WaitCamConfig1",
-            PiStep::WaitCamConfig2 => "WaitCamConfig2",
-            PiStep::WaitNetConfig => "WaitNetConfig",
-            PiStep::WaitNetConfigPw => "WaitNetConfigPw",
-            PiStep::WaitParams { idx } => return write!(out, "WaitParams idx={idx}"),
-            PiStep::Done => "Done",
-        };
-        out.write_all(name.as_bytes())
-    }
 }
 
 impl Sequence for PiCalls {
     const CALLS: Option<Calls> = Some(Calls {
-        check: false,
         result: true,
-        take: false,
-        retries: false,
+        ..FEED_ALONE
     });
 
     fn feed(&mut self, feed: &Feed<'_>, out: &mut Text) -> io::Result<()> {
-        let fed = self.pi.feed(
-            feed.src,
-            feed.type_id,
-            feed.message,
-            feed.text,
-            feed.payload,
-        );
-        self.go_on(&fed, out)
+        feed_by(self, feed, PiSequencer::feed, out)
     }
 
     fn result(&self, out: &mut Text) -> io::Result<()> {
-        let finished = self.pi.into_result();
-        send::outcome(out, &finished)?;
-        match finished {
-            Ok(sync) => stored::sync(out, &sync),
-            Err(_) => Ok(()),
-        }
+        send::result(out, &self.pi.into_result(), stored::sync)
     }
 
     fn state(&self, out: &mut Text) -> io::Result<()> {

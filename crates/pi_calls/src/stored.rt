@@ -2,7 +2,7 @@
 use crate::camera;
 use pi::PiSync;
 use pi_table::PiReplies;
-use protocol::{CamConfig, Stored};
+use protocol::Stored;
 use std::io;
 use std::io::Write;
 use writing::{fields, records};
@@ -10,13 +10,6 @@ use writing::{fields, records};
 fn network<W: Write>(out: &mut W, ssid: &Stored, password: &Stored) -> io::Result<()> {
     fields::stored(out, "ssid", ssid)?;
     fields::stored(out, "password", password)
-}
-
-fn cam_config<W: Write>(out: &mut W, config: &Option<CamConfig>) -> io::Result<()> {
-    match config {
-        Some(config) => camera::config(out, config),
-        None => fields::none(out, "cam_config"),
-    }
 }
 
 pub fn sync<W: Write>(out: &mut W, s: &PiSync) -> io::Result<()> {
@@ -29,7 +22,7 @@ pub fn sync<W: Write>(out: &mut W, s: &PiSync) -> io::Result<()> {
 // Every stored field.
 pub fn state<W: Write>(out: &mut W, r: &PiReplies) -> io::Result<()> {
     write!(out, "; state")?;
-    records::optional_dev_info(out, &r.dev_info)?;
-    cam_config(out, &r.cam_config)?;
+    fields::optional(out, "dev_info", &r.dev_info, records::dev_info)?;
+    fields::optional(out, "cam_config", &r.cam_config, camera::config)?;
     network(out, &r.ssid, &r.password)
 }

@@ -1,19 +1,46 @@
 // The call that a line makes.
-use crate::bytes::Lent;
-use crate::reader::{LINE, Reader};
-use crate::reason::{Bad, Reason};
+ghost use Rattle.std.specs.Prelude.{◌≡◌, [], IfOk};
+ghost use Rattle.settings.specs.Settings.{mode_only};
+ghost use Rattle.reading.specs.Lending.{lent_bytes};
+
+use crate::run_settings::{avr_config, mevo_settings, mode_only};
 use device::model::DeviceModel;
+use messages::{message, params};
 use protocol::{BusAddr, Message};
 use settings::AvrSettings;
+use std::alloc::{AllocError, Global};
+use words::{Bad, LINE, Reader, Reason, Value, named};
 
 #[derive(Clone, Copy)]
 pub enum Sequence {
     Dsp,
     Avr(DeviceModel),
     Pi,
-    AvrConfig(AvrSettings),
+    // with the settings that stand in `Lent`: here they would make each call four times as large, which is copied and cleared several times a line
+    AvrConfig,
     Disarm,
     Arm(DeviceModel),
+}
+
+// What a call is lent: bytes, and the settings of a run that it begins. Only a line that is too long could have more bytes than there is room for.
+#[derive(Drop)]
+pub struct Lent {
+    text: Vec<u8>,
+    payload: Vec<u8>,
+    pub settings: AvrSettings,
+}
+
+impl Lent {
+    pub fn new(alloc: Global) -> Result<Lent, AllocError>
+        ensures empty { IfOk result (λ l. lent_bytes l ≡ []) }
+        ensures settings { IfOk result (λ l. l.settings ≡ mode_only 0) }
+    {
+        Ok(Lent {
+            text: Vec::with_capacity(alloc, LINE)?,
+            payload: Vec::with_capacity(alloc, LINE)?,
+            settings: AvrSettings::mode_only(0),
+        })
+    }
 }
 
 // The calls that a sequence has beside `feed`, which each has.
@@ -25,7 +52,7 @@ pub struct Calls {
     pub retries: bool,
 }
 
-// An envelope and a clock reading.
+// An envelope and a line's clocks, which no envelope of the crates below the programs has.
 #[derive(Clone, Copy)]
 pub struct Feed<'b> {
     pub now: u64,
@@ -61,6 +88,58 @@ pub enum Call<'b> {
     Device(DeviceCall<'b>),
 }
 
+// The calls that begin a sequence.
+#[derive(Clone, Copy)]
+enum Begin {
+    Dsp,
+    Avr,
+    Pi,
+    AvrConfig,
+    ModeOnly,
+    MevoSettings,
+    Disarm,
+    Arm,
+}
+
+// The calls, without what stands behind their names.
+#[derive(Clone, Copy)]
+enum Name {
+    Begin(Begin),
+    Feed,
+    Check,
+    Result,
+    Take,
+    Retries,
+    Ack,
+    Keepalive,
+    Model,
+}
+
+const NAMES: [(&str, Name); 16] = [
+    ("feed", Name::Feed),
+    ("dsp", Name::Begin(Begin::Dsp)),
+    ("avr", Name::Begin(Begin::Avr)),
+    ("pi", Name::Begin(Begin::Pi)),
+    ("avr_config", Name::Begin(Begin::AvrConfig)),
+    ("mode_only", Name::Begin(Begin::ModeOnly)),
+    ("mevo_settings", Name::Begin(Begin::MevoSettings)),
+    ("disarm", Name::Begin(Begin::Disarm)),
+    ("arm", Name::Begin(Begin::Arm)),
+    ("check", Name::Check),
+    ("result", Name::Result),
+    ("take", Name::Take),
+    ("retries", Name::Retries),
+    ("ack", Name::Ack),
+    ("keepalive", Name::Keepalive),
+    ("model", Name::Model),
+];
+
+impl Value for Name {
+    fn read(word: &[u8]) -> Result<Name, Reason> {
+        named(word, &NAMES).ok_or(Reason::UnknownCall)
+    }
+}
+
 // Whether the sequence that runs has a call; `None` before the first sequence.
 fn its_call(has: Option<bool>) -> Result<(), Bad> {
     let why = match has {
@@ -71,109 +150,109 @@ fn its_call(has: Option<bool>) -> Result<(), Bad> {
     Err(Bad { at: 0, why })
 }
 
-impl<'a> Reader<'a> {
-    // A model, or a Mevo where the line ends.
-    fn model_or_mevo(&mut self) -> Result<DeviceModel, Bad> {
-        if self.is_done() {
-            return Ok(DeviceModel::Mevo);
+// A model, or a Mevo where the line ends.
+fn model_or_mevo(reader: &mut Reader<'_>) -> Result<DeviceModel, Bad> {
+    if reader.is_done() {
+        return Ok(DeviceModel::Mevo);
+    }
+    reader.next()
+}
+
+fn read_feed<'b>(reader: &mut Reader<'_>, lent: &'b mut Lent) -> Result<Call<'b>, Bad> {
+    let now = reader.next()?;
+    let src = reader.next()?;
+    let type_id = reader.next()?;
+    let message = message(reader, &mut lent.text)?;
+    let params = match message {
+        Message::ConfigResp => params(reader)?,
+        _ => [0; 34],
+    };
+    reader.bytes_of("text=", &mut lent.text)?;
+    reader.bytes_of("payload=", &mut lent.payload)?;
+    let wall = if reader.passes("wall=") {
+        reader.value()?
+    } else {
+        0
+    };
+    Ok(Call::Feed(Feed {
+        now,
+        src,
+        type_id,
+        message,
+        params,
+        text: &lent.text,
+        payload: &lent.payload,
+        wall,
+    }))
+}
+
+fn ack(reader: &mut Reader<'_>) -> Result<DeviceCall<'static>, Bad> {
+    Ok(DeviceCall::Ack(reader.next()?, reader.next()?, reader.next()?))
+}
+
+fn keepalive(reader: &mut Reader<'_>) -> Result<DeviceCall<'static>, Bad> {
+    if reader.is_done() {
+        return Ok(DeviceCall::Keepalive);
+    }
+    Ok(DeviceCall::KeepaliveFor(reader.next()?))
+}
+
+fn model<'b>(reader: &mut Reader<'_>, lent: &'b mut Lent) -> Result<Call<'b>, Bad> {
+    reader.skip_blanks();
+    reader.bytes(&mut lent.payload)?;
+    Ok(Call::Device(DeviceCall::Model(&lent.payload)))
+}
+
+fn read_call<'b>(
+    reader: &mut Reader<'_>,
+    running: Option<Calls>,
+    lent: &'b mut Lent,
+) -> Result<Call<'b>, Bad> {
+    match reader.next()? {
+        Name::Feed => {
+            its_call(running.map(|_| true))?;
+            read_feed(reader, lent)
         }
-        self.next()
-    }
-
-    fn feed<'b>(&mut self, lent: &'b mut Lent) -> Result<Call<'b>, Bad> {
-        let now = self.next()?;
-        let src = self.next()?;
-        let type_id = self.next()?;
-        let message = self.message(&mut lent.text)?;
-        let params = match message {
-            Message::ConfigResp => self.params()?,
-            _ => [0; 34],
-        };
-        self.bytes_of("text=", &mut lent.text)?;
-        self.bytes_of("payload=", &mut lent.payload)?;
-        let wall = if self.passes("wall=") {
-            self.value()?
-        } else {
-            0
-        };
-        Ok(Call::Feed(Feed {
-            now,
-            src,
-            type_id,
-            message,
-            params,
-            text: &lent.text,
-            payload: &lent.payload,
-            wall,
-        }))
-    }
-
-    fn ack(&mut self) -> Result<DeviceCall<'static>, Bad> {
-        Ok(DeviceCall::Ack(self.next()?, self.next()?, self.next()?))
-    }
-
-    fn keepalive(&mut self) -> Result<DeviceCall<'static>, Bad> {
-        if self.is_done() {
-            return Ok(DeviceCall::Keepalive);
+        Name::Model => model(reader, lent),
+        Name::Begin(begin) => Ok(Call::Begin(read_sequence(reader, begin, &mut lent.settings)?)),
+        Name::Check => {
+            its_call(running.map(|calls| calls.check))?;
+            Ok(Call::Check(reader.next()?))
         }
-        Ok(DeviceCall::KeepaliveFor(self.next()?))
-    }
-
-    fn model<'b>(&mut self, lent: &'b mut Lent) -> Result<Call<'b>, Bad> {
-        self.skip_blanks();
-        self.bytes(&mut lent.payload)?;
-        Ok(Call::Device(DeviceCall::Model(&lent.payload)))
-    }
-
-    fn call<'b>(&mut self, running: Option<Calls>, lent: &'b mut Lent) -> Result<Call<'b>, Bad> {
-        let start = *self;
-        match self.word() {
-            b"feed" => {
-                its_call(running.map(|_| true))?;
-                self.feed(lent)
-            }
-            b"model" => self.model(lent),
-            name => self.without_bytes(start, name, running),
+        Name::Result => {
+            its_call(running.map(|calls| calls.result))?;
+            Ok(Call::Result)
         }
+        Name::Take => {
+            its_call(running.map(|calls| calls.take))?;
+            Ok(Call::Take)
+        }
+        Name::Retries => {
+            its_call(running.map(|calls| calls.retries))?;
+            Ok(Call::Retries)
+        }
+        Name::Ack => Ok(Call::Device(ack(reader)?)),
+        Name::Keepalive => Ok(Call::Device(keepalive(reader)?)),
     }
+}
 
-    // A call that is lent no bytes.
-    fn without_bytes(
-        &mut self,
-        start: Reader<'a>,
-        name: &[u8],
-        running: Option<Calls>,
-    ) -> Result<Call<'static>, Bad> {
-        Ok(match name {
-            b"dsp" => Call::Begin(Sequence::Dsp),
-            b"avr" => Call::Begin(Sequence::Avr(self.model_or_mevo()?)),
-            b"pi" => Call::Begin(Sequence::Pi),
-            b"avr_config" => Call::Begin(Sequence::AvrConfig(self.avr_config()?)),
-            b"mode_only" => Call::Begin(Sequence::AvrConfig(self.mode_only()?)),
-            b"mevo_settings" => Call::Begin(Sequence::AvrConfig(self.mevo_settings()?)),
-            b"disarm" => Call::Begin(Sequence::Disarm),
-            b"arm" => Call::Begin(Sequence::Arm(self.model_or_mevo()?)),
-            b"ack" => Call::Device(self.ack()?),
-            b"keepalive" => Call::Device(self.keepalive()?),
-            b"check" => {
-                its_call(running.map(|calls| calls.check))?;
-                Call::Check(self.next()?)
-            }
-            b"result" => {
-                its_call(running.map(|calls| calls.result))?;
-                Call::Result
-            }
-            b"take" => {
-                its_call(running.map(|calls| calls.take))?;
-                Call::Take
-            }
-            b"retries" => {
-                its_call(running.map(|calls| calls.retries))?;
-                Call::Retries
-            }
-            _ => return Err(start.bad(Reason::UnknownCall)),
-        })
-    }
+// The sequence that a call begins. The settings of a run go to `settings`.
+fn read_sequence(
+    reader: &mut Reader<'_>,
+    begin: Begin,
+    settings: &mut AvrSettings,
+) -> Result<Sequence, Bad> {
+    *settings = match begin {
+        Begin::Dsp => return Ok(Sequence::Dsp),
+        Begin::Avr => return Ok(Sequence::Avr(model_or_mevo(reader)?)),
+        Begin::Pi => return Ok(Sequence::Pi),
+        Begin::AvrConfig => avr_config(reader)?,
+        Begin::ModeOnly => mode_only(reader)?,
+        Begin::MevoSettings => mevo_settings(reader)?,
+        Begin::Disarm => return Ok(Sequence::Disarm),
+        Begin::Arm => return Ok(Sequence::Arm(model_or_mevo(reader)?)),
+    };
+    Ok(Sequence::AvrConfig)
 }
 
 // The call of a line, if it is no comment. The sequence that runs has these calls; `None` before the first sequence.
@@ -192,7 +271,7 @@ pub fn read_line<'b>(
     if reader.is_done() || reader.next_is("#") {
         return Ok(None);
     }
-    let call = reader.call(running, lent)?;
+    let call = read_call(&mut reader, running, lent)?;
     reader.end()?;
     Ok(Some(call))
 }

@@ -14,12 +14,17 @@ use streams::answers::Form;
 // The bytes that an argument may have.
 const WORD: usize = 4_096;
 
-// The exit statuses: a line can't be read; something failed; nobody reads the answers any more, which a shell calls the signal of a closed pipe.
-const BAD_LINE: u8 = 1;
-
-const FAILED: u8 = 2;
-
-const UNHEARD: u8 = 141;
+// How the program ends, by its exit statuses.
+#[derive(Clone, Copy, PartialEq)]
+enum Exit {
+    AllRead = 0,
+    // a line can't be read
+    BadLine = 1,
+    // something failed
+    Failed = 2,
+    // nobody reads the answers any more, which a shell calls the signal of a closed pipe
+    Unheard = 141,
+}
 
 // Why there are no answers, or not all of them.
 #[derive(Debug, Drop)]
@@ -77,7 +82,8 @@ impl<'a> Options<'a> {
     }
 }
 
-// The words behind the program's name. Of one that is too long nothing is taken.
+// The words behind the program's name. Of one that is too long nothing is taken. They are taken by their places, since those of `env::args` are UTF-8,
+// which a file's name need not be.
 fn words(rt: &HostRuntime) -> Result<Vec<Vec<u8>>, AllocError> {
     let mut words = Vec::new(rt.alloc());
     let mut word = [0u8; WORD];
@@ -104,7 +110,7 @@ fn answer(rt: &HostRuntime, options: Options<'_>) -> Result<u64, Error> {
     Ok(lists::replay(rt.alloc(), file, rt.stdout(), options.form)?)
 }
 
-// Writes a message to standard error. Nothing can be said of a write there that fails.
+// Writes a message to standard error; a name in it need not be UTF-8. Nothing can be said of a write there that fails.
 fn complain(rt: &HostRuntime, about: &[u8], what: &str) {
     let mut stderr = rt.stderr();
     let _ = stderr.write_all(b"replay: ");
@@ -130,10 +136,10 @@ fn complain_of(rt: &HostRuntime, name: &[u8], error: &io::Error) {
 }
 
 // The status, of a list that comes from an input of this name. Why it failed is said.
-fn status(rt: &HostRuntime, name: &[u8], answered: Result<u64, Error>) -> u8 {
+fn status(rt: &HostRuntime, name: &[u8], answered: Result<u64, Error>) -> Exit {
     match answered {
-        Ok(0) => return 0,
-        Ok(_) => return BAD_LINE,
+        Ok(0) => return Exit::AllRead,
+        Ok(_) => return Exit::BadLine,
         Err(Error::Usage) => complain(rt, b"usage: replay [--show] [--state] [FILE]", ""),
         Err(Error::Name) => complain(rt, name, ": not UTF-8"),
         Err(Error::File(error)) => complain_of(rt, name, &error),
@@ -141,15 +147,15 @@ fn status(rt: &HostRuntime, name: &[u8], answered: Result<u64, Error>) -> u8 {
         Err(Error::List(Failure::OutOfMemory)) => complain(rt, b"out of memory", ""),
         Err(Error::List(Failure::Output(error))) => {
             if error.kind() == ErrorKind::BrokenPipe {
-                return UNHEARD;
+                return Exit::Unheard;
             }
             complain(rt, b"standard output", ": can't be written");
         }
     }
-    FAILED
+    Exit::Failed
 }
 
-fn run(rt: &HostRuntime, words: &[Vec<u8>]) -> u8 {
+fn run(rt: &HostRuntime, words: &[Vec<u8>]) -> Exit {
     match Options::read(words) {
         Ok(options) => {
             let name = options.named().unwrap_or(b"standard input");
@@ -170,30 +176,30 @@ fn is_heard(rt: &HostRuntime) -> bool {
 }
 
 // Writes the status as a digit to descriptor 3, if one is open for writing.
-fn tell(rt: &HostRuntime, status: u8) {
+fn tell(rt: &HostRuntime, status: Exit) {
     if !is_heard(rt) {
         return;
     }
     let mut how = OpenOptions::new();
     how.read(true).append(true);
     if let Ok(mut file) = how.open(rt, "/dev/fd/3") {
-        let _ = file.write_all(&[b'0'.wrapping_add(status)]);
+        let _ = file.write_all(&[b'0'.wrapping_add(status as u8)]);
     }
 }
 
 fn main(rt: HostRuntime) -> ExitCode {
     let Ok(words) = words(&rt) else {
         complain(&rt, b"out of memory", "");
-        return ExitCode::from(FAILED);
+        return ExitCode::from(Exit::Failed as u8);
     };
     let status = run(&rt, &words);
-    if status == UNHEARD {
-        return ExitCode::from(status);
+    if status == Exit::Unheard {
+        return ExitCode::from(status as u8);
     }
     let with_status = |word: &Vec<u8>| word.as_slice() == b"--status".as_slice();
     if !words.iter().any(with_status) {
         return ExitCode::SUCCESS;
     }
     tell(&rt, status);
-    ExitCode::from(status)
+    ExitCode::from(status as u8)
 }

@@ -1,6 +1,6 @@
 // An answer, laid out below its line.
-use crate::tables::{Sequence, Step};
-use crate::{Shown, fields, tables};
+use crate::tables::{Reason, Sequence, Step};
+use crate::{Shown, fields};
 use folding::split::Texts;
 use folding::{fold, split};
 use std::io;
@@ -22,7 +22,10 @@ fn line<W: Write>(out: &mut W, s: &[u8]) -> io::Result<()> {
 fn refused<W: Write>(out: &mut W, s: &[u8], number: &[u8]) -> io::Result<()> {
     fold::blanks(out, INDENT)?;
     out.write_all(s)?;
-    writeln!(out, ": {}", tables::reason(number))
+    if let Some(reason) = Reason::of(number) {
+        write!(out, ": {reason}")?;
+    }
+    writeln!(out)
 }
 
 impl Shown {

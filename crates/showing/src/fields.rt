@@ -4,37 +4,34 @@ use folding::split::{Texts, split_once};
 use std::io;
 use std::io::Write;
 
-// The fields that belong to no record: each of the others belongs to the last of these before it.
-const OUTER: [&[u8]; 22] = [
-    b"last",
-    b"status",
-    b"hw_info",
-    b"dev_info",
-    b"prod_info",
-    b"params",
-    b"model",
-    b"power_mode_unanswered",
-    b"deadline",
-    b"refused",
-    b"factory_cal",
-    b"if_cal",
-    b"avr_config",
-    b"cal_deadline",
-    b"repoll_at",
-    b"cam_config",
-    b"ssid",
-    b"password",
-    b"mode",
-    b"radar_cal",
-    b"retries",
-    b"wait_pi",
-];
+// The kind of a field, by its name.
+#[derive(Clone, Copy, PartialEq)]
+enum Kind {
+    // a reading of the clock, where it is there
+    Reading,
+    ProdInfo,
+    // another that belongs to no record
+    Outer,
+    // one of the last record before it
+    Inner,
+}
+
+impl Kind {
+    fn of(name: &[u8]) -> Kind {
+        match name {
+            b"last" | b"deadline" | b"cal_deadline" | b"repoll_at" => Kind::Reading,
+            b"prod_info" => Kind::ProdInfo,
+            b"status" | b"hw_info" | b"dev_info" | b"params" | b"model" | b"mode" => Kind::Outer,
+            b"power_mode_unanswered" | b"refused" | b"retries" | b"wait_pi" => Kind::Outer,
+            b"factory_cal" | b"if_cal" | b"avr_config" | b"radar_cal" => Kind::Outer,
+            b"cam_config" | b"ssid" | b"password" => Kind::Outer,
+            _ => Kind::Inner,
+        }
+    }
+}
 
 // The product infos by their number.
 const PROD_INFOS: [&[u8]; 3] = [b"prod_info 0", b"prod_info 1", b"prod_info 2"];
-
-// Those that are readings of the clock, where they are there.
-const READINGS: [&[u8]; 4] = [b"last", b"deadline", b"cal_deadline", b"repoll_at"];
 
 // The columns before the name of a field, of one that belongs to a record, and before values.
 const FIELD: usize = 6;
@@ -58,7 +55,7 @@ pub fn reading<W: Write>(out: &mut W, now: u64) -> io::Result<()> {
 
 // The reading that a field has.
 fn reading_in(name: &[u8], value: &[u8]) -> Option<u64> {
-    if !READINGS.contains(&name) {
+    if Kind::of(name) != Kind::Reading {
         return None;
     }
     std::str::from_utf8(value).ok()?.parse().ok()
@@ -126,7 +123,10 @@ fn word<W: Write>(out: &mut W, name: &[u8], given: &[u8]) -> io::Result<()> {
         let (inner, first) = split_once(given, b'=').unwrap_or((given, b""));
         return field(out, INNER, inner, first);
     }
-    let indent = if OUTER.contains(&name) { FIELD } else { INNER };
+    let indent = match Kind::of(name) {
+        Kind::Inner => INNER,
+        _ => FIELD,
+    };
     field(out, indent, name, given)
 }
 
@@ -136,10 +136,9 @@ pub fn words<W: Write>(out: &mut W, s: &[u8]) -> io::Result<()> {
     let mut texts = Texts::new();
     for next in s.split(|b| texts.outside(*b) && *b == b' ') {
         let (name, given) = split_once(next, b'=').unwrap_or((next, b""));
-        if name == b"prod_info".as_slice() {
-            field(out, FIELD, prod_infos.next().unwrap_or(&name), given)?;
-        } else {
-            word(out, name, given)?;
+        match Kind::of(name) {
+            Kind::ProdInfo => field(out, FIELD, prod_infos.next().unwrap_or(&name), given)?,
+            _ => word(out, name, given)?,
         }
     }
     Ok(())

@@ -2,6 +2,9 @@
 // answers, and knows nothing of what the sequences store.
 #![tactic(auto)]
 
+ghost use Rattle.std.specs.Prelude.{◌≡◌};
+ghost use Rattle.showing.specs.Shown.{first_shown, with_call, with_sequence, with_reading, with_bad_line};
+
 mod answer;
 mod fields;
 mod summary;
@@ -31,7 +34,9 @@ pub struct Shown {
 
 impl Shown {
     // Before the first line.
-    pub fn new() -> Shown {
+    pub fn new() -> Shown
+        ensures { result ≡ first_shown }
+    {
         Shown {
             calls: 0,
             refused: 0,
@@ -45,25 +50,33 @@ impl Shown {
     }
 
     // Before one more call.
-    pub fn called(&mut self) {
+    pub fn called(&mut self)
+        ensures { self.new ≡ with_call self.old }
+    {
         self.calls = self.calls.saturating_add(1);
         self.begins = false;
         self.reading = None;
     }
 
     // The call begins a sequence.
-    pub fn begun(&mut self, sequence: Sequence) {
+    pub fn begun(&mut self, sequence: Sequence)
+        ensures { self.new ≡ with_sequence sequence self.old }
+    {
         self.begins = true;
         self.sequence = Some(sequence);
     }
 
     // The call is a feed or check with this reading.
-    pub fn read(&mut self, now: u64) {
+    pub fn read(&mut self, now: u64)
+        ensures { self.new ≡ with_reading now self.old }
+    {
         self.reading = Some(now);
     }
 
     // After one more line that can't be read.
-    pub fn unread(&mut self) {
+    pub fn unread(&mut self)
+        ensures { self.new ≡ with_bad_line self.old }
+    {
         self.bad_lines = self.bad_lines.saturating_add(1);
     }
 }

@@ -1,5 +1,8 @@
 // What the answers mean, in words.
+use protocol::Refusal;
+use std::fmt;
 
+// Which sequence runs. The reader's has the model with it, too, which nothing here needs.
 #[derive(Clone, Copy, PartialEq)]
 pub enum Sequence {
     Dsp,
@@ -10,19 +13,20 @@ pub enum Sequence {
     Arm,
 }
 
-// A step, and what it waits for: nothing when it is done.
+// A step, and what it waits for: nothing when it is done. The steps are texts: only the text of an answer is looked at here, and their enums stand in
+// the crates of six sequences, so that reading them back from it would take six functions more.
 #[derive(Clone, Copy, PartialEq)]
 pub struct Step(pub &'static str, pub &'static str);
 
-// Why a call is refused, by the number.
-const REFUSALS: [(&str, &str); 7] = [
-    ("1", "the text has more than 256 bytes"),
-    ("2", "the payload has more than 256 bytes"),
-    ("3", "the reading is above 18446744071709551615 ns"),
-    ("4", "the settings have more than 32 parameters"),
-    ("11", "the reading is below the last accepted one"),
-    ("12", "the result is asked for before Done"),
-    ("13", "the arm would count a nack while retries is 65535"),
+// All of them: oracle/tests/show.rs holds this to the enum.
+const REFUSALS: [Refusal; 7] = [
+    Refusal::TextTooLong,
+    Refusal::PayloadTooLong,
+    Refusal::ReadingTooLarge,
+    Refusal::TooManyParams,
+    Refusal::ReadingBelowLast,
+    Refusal::NotDone,
+    Refusal::RetriesFull,
 ];
 
 const DSP: [Step; 9] = [
@@ -118,6 +122,7 @@ const ARM: [Step; 7] = [
 ];
 
 impl Sequence {
+    // A text, and no `Display`: the columns that it takes are counted.
     pub fn name(self) -> &'static str {
         match self {
             Sequence::Dsp => "the DSP start-up",
@@ -160,9 +165,28 @@ impl Step {
 }
 
 // Why a call is refused.
-pub fn reason(number: &[u8]) -> &'static str {
-    match REFUSALS.iter().find(|(n, _)| n.as_bytes() == number) {
-        Some((_, reason)) => reason,
-        None => "",
+#[derive(Clone, Copy)]
+pub struct Reason(Refusal);
+
+impl Reason {
+    // By the number in an answer.
+    pub fn of(number: &[u8]) -> Option<Reason> {
+        let number: u8 = std::str::from_utf8(number).ok()?.parse().ok()?;
+        let refusal = REFUSALS.iter().find(|refusal| refusal.number() == number)?;
+        Some(Reason(*refusal))
+    }
+}
+
+impl fmt::Display for Reason {
+    fn fmt<W: fmt::Write>(&self, f: &mut fmt::Formatter<W>) -> fmt::Result {
+        f.write_str(match self.0 {
+            Refusal::TextTooLong => "the text has more than 256 bytes",
+            Refusal::PayloadTooLong => "the payload has more than 256 bytes",
+            Refusal::ReadingTooLarge => "the reading is above 18446744071709551615 ns",
+            Refusal::TooManyParams => "the settings have more than 32 parameters",
+            Refusal::ReadingBelowLast => "the reading is below the last accepted one",
+            Refusal::NotDone => "the result is asked for before Done",
+            Refusal::RetriesFull => "the arm would count a nack while retries is 65535",
+        })
     }
 }

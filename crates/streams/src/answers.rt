@@ -2,11 +2,12 @@
 use crate::Failure;
 use crate::lines::Line;
 use crate::running::Sequence;
-use reading::{Bad, Call, LINE};
+use reading::Call;
 use showing::Shown;
 use std::alloc::Global;
 use std::io;
 use std::io::{BufWriter, Write};
+use words::{Bad, LINE};
 
 // The bytes that are kept before they are written out. They are written once there are more than NEARLY_FULL: no answer is longer than the rest.
 const OUT: usize = 131_072;
@@ -73,12 +74,13 @@ fn show_call(shown: &mut Shown, call: &Call<'_>) {
     }
 }
 
+// Not a `From`: both types are of crates below, where the lower one knows no models.
 fn shown_sequence(sequence: &reading::Sequence) -> showing::tables::Sequence {
     match sequence {
         reading::Sequence::Dsp => showing::tables::Sequence::Dsp,
         reading::Sequence::Avr(_) => showing::tables::Sequence::Avr,
         reading::Sequence::Pi => showing::tables::Sequence::Pi,
-        reading::Sequence::AvrConfig(_) => showing::tables::Sequence::Settings,
+        reading::Sequence::AvrConfig => showing::tables::Sequence::Settings,
         reading::Sequence::Disarm => showing::tables::Sequence::Disarm,
         reading::Sequence::Arm(_) => showing::tables::Sequence::Arm,
     }

@@ -5,7 +5,8 @@ use protocol::Action;
 use reading::DeviceCall;
 use std::io;
 use std::io::Write;
-use writing::{send, write};
+use writing::send;
+use writing::write::Model;
 
 fn keepalive<W: Write>(out: &mut W, actions: &[Option<Action>; 3]) -> io::Result<()> {
     for (i, action) in actions.iter().enumerate() {
@@ -25,8 +26,7 @@ pub fn answer<W: Write>(out: &mut W, call: DeviceCall<'_>) -> io::Result<()> {
         DeviceCall::Keepalive => keepalive(out, &sends::keepalive_actions()),
         DeviceCall::KeepaliveFor(model) => keepalive(out, &sends::keepalive_actions_for(model)),
         DeviceCall::Model(payload) => {
-            let model = DeviceModel::from_dev_info(payload);
-            out.write_all(write::model(model).as_bytes())
+            write!(out, "{}", Model(DeviceModel::from_dev_info(payload)))
         }
     }
 }

@@ -45,7 +45,7 @@ impl From<io::Error> for Failure {
 pub struct List<R: Read + Drop, W: Write + Drop> {
     pub lines: Lines<R>,
     pub answers: Answers<W>,
-    // the bytes that a call is lent
+    // what a call is lent
     pub lent: Lent,
 }
 

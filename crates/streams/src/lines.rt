@@ -2,9 +2,9 @@
 use crate::Failure;
 use crate::answers::Answers;
 use memchr::memchr;
-use reading::LINE;
 use std::alloc::{AllocError, Global};
 use std::io::{BufRead, BufReader, Read, Write};
+use words::LINE;
 
 // The bytes of one read.
 const INPUT: usize = 65_536;

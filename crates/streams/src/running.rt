@@ -1,12 +1,21 @@
 // The sequences, which answer a list's calls.
 use crate::answers::{Answers, Text};
 use crate::{Failure, List, device_calls};
-use protocol::{Action, Refusal};
+use protocol::{Action, BusAddr, Message, Refusal};
 use reading::{Call, Calls, Feed, read_line};
 use sequence::Answer;
+use std::fmt::Display;
 use std::io;
 use std::io::{Read, Write};
 use writing::send;
+
+// The calls of a sequence that has `feed` alone.
+pub const FEED_ALONE: Calls = Calls {
+    check: false,
+    result: false,
+    take: false,
+    retries: false,
+};
 
 // A sequence that runs. Each of its calls writes what it answers. Those that it doesn't have are never made.
 pub trait Sequence {
@@ -35,22 +44,25 @@ pub trait Sequence {
     fn state(&self, out: &mut Text) -> io::Result<()>;
 }
 
-// The steps that a sequence goes through, by its sequencer.
+// The steps that a sequence goes through, by its sequencer. That stands in a struct of the sequence's crate of calls, since an `impl` of these traits
+// may not stand beside the type of another crate.
 pub trait Steps: Sized + Drop {
     type Sequencer: Copy;
+    // a step, which prints its name and its fields: in a struct, as the sequencer, and by `Display`, since `Debug` promises no text
+    type Step: Display + Drop;
 
     fn sequencer(&mut self) -> &mut Self::Sequencer;
+
+    // The step that is awaited.
+    fn step(&self) -> Self::Step;
 
     // The place of the entry that is awaited, from 0; `None` if none is ever ticked, since the sequence goes back.
     fn entry(&self) -> Option<usize>;
 
-    // Writes the step's name, with its fields.
-    fn write_step(&self, out: &mut Text) -> io::Result<()>;
-
     // Begins: writes what is sent, and the step.
     fn begun(self, outcome: &Result<Option<Action>, Refusal>, out: &mut Text) -> io::Result<Self> {
         send::sent(out, outcome)?;
-        self.write_step(out)?;
+        write!(out, "{}", self.step())?;
         Ok(self)
     }
 
@@ -59,8 +71,26 @@ pub trait Steps: Sized + Drop {
         let before = self.entry();
         *self.sequencer() = fed.seq;
         send::fed(out, &fed.outcome, ticked(before, self.entry()))?;
-        self.write_step(out)
+        write!(out, "{}", self.step())
     }
+}
+
+// Goes on with a feed to a sequence that looks at neither clock, by its `feed`.
+pub fn feed_by<
+    S: Steps,
+    F: FnOnce(S::Sequencer, BusAddr, u8, Message, &[u8], &[u8]) -> Answer<S::Sequencer>,
+>(running: &mut S, feed: &Feed<'_>, by: F, out: &mut Text) -> io::Result<()>
+    requires { F.IsAlwaysCallable by }
+{
+    let fed = by(
+        *running.sequencer(),
+        feed.src,
+        feed.type_id,
+        feed.message,
+        feed.text,
+        feed.payload,
+    );
+    running.go_on(&fed, out)
 }
 
 // The entry that a call has ticked, from 1, by the places from 0 of those awaited before and after it.

@@ -12,7 +12,7 @@ pub fn nack<W: Write>(out: &mut W, nack: &Nack) -> io::Result<()> {
     write!(
         out,
         "src={} type_id=0x{:02X} bus_addr=0x{:02X} acked_cmd=0x{:02X}",
-        write::source(nack.src),
+        write::Source(nack.src),
         nack.type_id,
         nack.nack.bus_addr,
         nack.nack.acked_cmd
@@ -51,7 +51,7 @@ pub fn status<W: Write>(out: &mut W, status: &DspStatus, payload: &Stored) -> io
     }
 }
 
-pub fn hw_info<W: Write>(out: &mut W, info: DspQueryResp) -> io::Result<()> {
+pub fn hw_info<W: Write>(out: &mut W, info: &DspQueryResp) -> io::Result<()> {
     write!(
         out,
         " hw_info=version=0x{:02X} dsp_type=0x{:02X} pcb={}",
@@ -62,13 +62,6 @@ pub fn hw_info<W: Write>(out: &mut W, info: DspQueryResp) -> io::Result<()> {
 pub fn dev_info<W: Write>(out: &mut W, info: &DevInfoResp) -> io::Result<()> {
     fields::stored(out, "dev_info=text", &info.text)?;
     fields::stored(out, "payload", &info.payload)
-}
-
-pub fn optional_dev_info<W: Write>(out: &mut W, info: &Option<DevInfoResp>) -> io::Result<()> {
-    match info {
-        Some(info) => dev_info(out, info),
-        None => fields::none(out, "dev_info"),
-    }
 }
 
 pub fn prod_info<W: Write>(out: &mut W, infos: &[ProdInfoResp; 3]) -> io::Result<()> {
@@ -88,16 +81,8 @@ pub fn config<W: Write>(out: &mut W, config: &ConfigResp) -> io::Result<()> {
     Ok(())
 }
 
-pub fn optional_config<W: Write>(out: &mut W, numbers: &Option<ConfigResp>) -> io::Result<()> {
-    match numbers {
-        Some(numbers) => config(out, numbers),
-        None => fields::none(out, "params"),
-    }
-}
-
-pub fn instant<W: Write>(out: &mut W, name: &str, instant: Option<u64>) -> io::Result<()> {
-    match instant {
-        Some(instant) => write!(out, " {name}={instant}"),
-        None => fields::none(out, name),
-    }
+pub fn instant<W: Write>(out: &mut W, name: &str, instant: &Option<u64>) -> io::Result<()> {
+    fields::optional(out, name, instant, |out, instant| {
+        write!(out, " {name}={instant}")
+    })
 }

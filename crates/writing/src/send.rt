@@ -4,12 +4,16 @@ use protocol::{Action, Command, ParamData, ParamValue, Refusal};
 use std::io;
 use std::io::Write;
 
-// The fields of a parameter.
+// The fields of a parameter. A state has up to 32 of them: with `{:02X}` and `{:016X}`, which take several writes each, it took half as long again.
 pub fn param<W: Write>(out: &mut W, param: ParamValue) -> io::Result<()> {
-    write!(out, " param_id=0x{:02X}", param.param_id)?;
+    out.write_all(b" param_id=0x")?;
+    write::digits(out, &[param.param_id])?;
     match param.value {
         ParamData::Int24(n) => write!(out, " int24={n}"),
-        ParamData::Float40(x) => write!(out, " float40=0x{:016X}", fields::bits(x)),
+        ParamData::Float40(x) => {
+            out.write_all(b" float40=0x")?;
+            write::digits(out, &fields::bits(x).to_be_bytes())
+        }
     }
 }
 
@@ -64,7 +68,7 @@ fn command<W: Write>(out: &mut W, action: &Action) -> io::Result<()> {
 pub fn send<W: Write>(out: &mut W, action: &Option<Action>) -> io::Result<()> {
     match action {
         Some(action) => {
-            write!(out, "send {} ", write::source(action.dest))?;
+            write!(out, "send {} ", write::Source(action.dest))?;
             command(out, action)
         }
         None => write!(out, "no send"),
@@ -76,6 +80,21 @@ pub fn outcome<T, W: Write>(out: &mut W, outcome: &Result<T, Refusal>) -> io::Re
     match outcome {
         Ok(_) => write!(out, "accepted"),
         Err(refusal) => write!(out, "refused {}", refusal.number()),
+    }
+}
+
+// The result of a sequence, as `write` writes it, or why there is none yet.
+pub fn result<T, W: Write, F: FnOnce(&mut W, &T) -> io::Result<()>>(
+    out: &mut W,
+    finished: &Result<T, Refusal>,
+    write: F,
+) -> io::Result<()>
+    requires { F.IsAlwaysCallable write }
+{
+    outcome(out, finished)?;
+    match finished {
+        Ok(result) => write(out, result),
+        Err(_) => Ok(()),
     }
 }
 

@@ -1,25 +1,37 @@
 // The names of sources and models, and bytes.
 use device::model::DeviceModel;
 use protocol::BusAddr;
-use std::io;
 use std::io::Write;
+use std::{fmt, io};
 
 // So many bytes are written at once.
 const ROW: usize = 64;
 
-pub fn source(src: BusAddr) -> &'static str {
-    match src {
-        BusAddr::App => "App",
-        BusAddr::Pi => "Pi",
-        BusAddr::Avr => "Avr",
-        BusAddr::Dsp => "Dsp",
+// A source as it is written: its name. A struct around it, since `Display` may not stand beside an enum of another crate.
+#[derive(Clone, Copy)]
+pub struct Source(pub BusAddr);
+
+impl fmt::Display for Source {
+    fn fmt<W: fmt::Write>(&self, f: &mut fmt::Formatter<W>) -> fmt::Result {
+        f.write_str(match self.0 {
+            BusAddr::App => "App",
+            BusAddr::Pi => "Pi",
+            BusAddr::Avr => "Avr",
+            BusAddr::Dsp => "Dsp",
+        })
     }
 }
 
-pub fn model(model: DeviceModel) -> &'static str {
-    match model {
-        DeviceModel::Mevo => "Mevo",
-        DeviceModel::Xi => "Xi",
+// A model as it is written: its name. A struct, as `Source` is.
+#[derive(Clone, Copy)]
+pub struct Model(pub DeviceModel);
+
+impl fmt::Display for Model {
+    fn fmt<W: fmt::Write>(&self, f: &mut fmt::Formatter<W>) -> fmt::Result {
+        f.write_str(match self.0 {
+            DeviceModel::Mevo => "Mevo",
+            DeviceModel::Xi => "Xi",
+        })
     }
 }
 
@@ -40,26 +52,28 @@ fn shown(b: u8) -> u8 {
     }
 }
 
-fn digits_of_row<W: Write>(out: &mut W, row: &[u8]) -> io::Result<()> {
-    let mut digits = [[0u8; 2]; ROW];
-    for (pair, b) in digits.iter_mut().zip(row) {
-        *pair = [digit(*b / 16), digit(*b)];
+// Writes a byte for each of these. A row at a time: with a `write!` for each it took more than ten times as long.
+pub fn each<W: Write, F: Fn(u8) -> u8>(out: &mut W, s: &[u8], written: F) -> io::Result<()>
+    requires { F.IsAlwaysCallable written }
+{
+    for row in s.chunks(ROW) {
+        let mut text = [0u8; ROW];
+        for (to, b) in text.iter_mut().zip(row) {
+            *to = written(*b);
+        }
+        out.write_all(&text[..row.len().min(ROW)])?;
     }
-    out.write_all(digits[..row.len().min(ROW)].as_flattened())
+    Ok(())
 }
 
-fn text_of_row<W: Write>(out: &mut W, row: &[u8]) -> io::Result<()> {
-    let mut text = [0u8; ROW];
-    for (to, b) in text.iter_mut().zip(row) {
-        *to = shown(*b);
-    }
-    out.write_all(&text[..row.len().min(ROW)])
-}
-
-// Bytes as hexadecimal digits. A row at a time: with a `write!` for each byte it took more than ten times as long.
+// Bytes as hexadecimal digits. It is no `each` of N bytes in place of one: a bound `Fn` that names a const parameter gets no proof.
 pub fn digits<W: Write>(out: &mut W, s: &[u8]) -> io::Result<()> {
     for row in s.chunks(ROW) {
-        digits_of_row(out, row)?;
+        let mut digits = [[0u8; 2]; ROW];
+        for (pair, b) in digits.iter_mut().zip(row) {
+            *pair = [digit(*b / 16), digit(*b)];
+        }
+        out.write_all(digits[..row.len().min(ROW)].as_flattened())?;
     }
     Ok(())
 }
@@ -68,8 +82,6 @@ pub fn digits<W: Write>(out: &mut W, s: &[u8]) -> io::Result<()> {
 pub fn digits_and_text<W: Write>(out: &mut W, s: &[u8]) -> io::Result<()> {
     digits(out, s)?;
     out.write_all(b"|")?;
-    for row in s.chunks(ROW) {
-        text_of_row(out, row)?;
-    }
+    each(out, s, shown)?;
     out.write_all(b"|")
 }

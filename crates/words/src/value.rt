@@ -1,4 +1,7 @@
 // Numbers, bools, floats and the names of models and sources.
+ghost use Rattle.std.specs.Prelude.{◌≡◌, true};
+ghost use Rattle.words.specs.Digits.{is_hex_digit, hex_value};
+
 use crate::reason::Reason;
 use device::model::DeviceModel;
 use protocol::BusAddr;
@@ -9,19 +12,29 @@ pub trait Value: Sized {
     fn read(word: &[u8]) -> Result<Self, Reason>;
 }
 
+// What stands in a table beside a name.
+pub fn named<T: Copy>(name: &[u8], table: &[(&str, T)]) -> Option<T> {
+    table
+        .iter()
+        .find(|(known, _)| known.as_bytes() == name)
+        .map(|(_, value)| *value)
+}
+
 // Whether a byte is a hexadecimal digit. No branch is taken, here and in `digit`: which digit comes can't be foretold.
-pub fn is_hex(b: u8) -> bool {
+pub(crate) fn is_hex(b: u8) -> bool {
     // small letters have this bit more than capitals
     let letter = (b | 0x20).wrapping_sub(b'a');
     (b.wrapping_sub(b'0') < 10) | (letter < 6)
 }
 
 // The value of a hexadecimal digit; of any other byte, some number below 16.
-pub fn digit(b: u8) -> u8 {
+pub(crate) fn digit(b: u8) -> u8
+    ensures { is_hex_digit b ≡ true → result ≡ hex_value b }
+{
     (b % 16 + 9 * (b / 64)) % 16
 }
 
-// The number that digits write: decimal ones, or hexadecimal ones with a radix of 16.
+// The number that digits write: decimal ones, or hexadecimal ones with a radix of 16. Not by std's `from_str_radix`, which would take a sign.
 fn number(digits: &[u8], radix: u8) -> Result<u64, Reason> {
     let is_digit = |b: &u8| is_hex(*b) & (digit(*b) < radix);
     if digits.is_empty() || !digits.iter().all(is_digit) {

@@ -2,23 +2,6 @@
 use crate::reader::{LINE, Reader};
 use crate::reason::{Bad, Reason};
 use crate::value::{digit, is_hex};
-use std::alloc::{AllocError, Global};
-
-// The bytes that a call is lent. Only a line that is too long could have more than there is room for.
-#[derive(Drop)]
-pub struct Lent {
-    pub(crate) text: Vec<u8>,
-    pub(crate) payload: Vec<u8>,
-}
-
-impl Lent {
-    pub fn new(alloc: Global) -> Result<Lent, AllocError> {
-        Ok(Lent {
-            text: Vec::with_capacity(alloc, LINE)?,
-            payload: Vec::with_capacity(alloc, LINE)?,
-        })
-    }
-}
 
 // The byte that two digits write.
 fn joined(high: u8, low: u8) -> u8 {
@@ -71,7 +54,8 @@ impl<'a> Reader<'a> {
         self.pass(n)
     }
 
-    // A text, whose opening quote stands here. Each turn takes a byte of the line or more.
+    // A text, whose opening quote stands here. The turns are counted, where a `while` would need a proof file: each takes a byte
+    // of the line or more.
     fn text(&mut self, inside: &'a [u8], into: &mut Vec<u8>) -> Result<(), Bad> {
         let quote = *self;
         self.rest = inside;
