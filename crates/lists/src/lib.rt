@@ -21,6 +21,7 @@ fn answer<R: Read + Drop, W: Write + Drop>(
     list: &mut List<R, W>,
 ) -> Result<Option<Sequence>, Failure> {
     let out = &mut list.answers.answer;
+    // six arms, since each begins a sequence of its own type
     match sequence {
         Sequence::Dsp => {
             let dsp = DspCalls::begin(out)?;
