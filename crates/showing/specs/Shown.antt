@@ -1,6 +1,7 @@
 -- What the layout of a list goes by, as its lines come (docs/REPLAY.md, "Shown to people"). Definitions only.
 -- Assumes nothing.
-use Rattle.std.specs.Prelude.{ℕ, ◌+◌, ◌-◌, ◌^◌, min, true, false, None, Some}
+use Rattle.std.specs.Prelude.{ℕ, true, false, None, Some}
+use Rattle.folding.specs.Apart.{one_more}
 use Rattle.showing.specs.declared.Shown.{Shown}
 use Rattle.showing.specs.declared.tables.Sequence.{Sequence}
 
@@ -16,10 +17,6 @@ first_shown = record {
   moved = false;
   reading = None;
 }
-
--- a count, up to the most that 64 bits hold
-abbrev pub one_more : ℕ → ℕ
-one_more n = min (n + 1) (2 ^ 64 - 1)
 
 -- one more call, of which nothing is known yet
 abbrev pub with_call : Shown → Shown

@@ -84,7 +84,7 @@ impl Shown {
 // The columns before what is folded of a line.
 const HANG: usize = 8;
 
-// A line without the carriage return at its end.
+// A line without the carriage return at its end, which the reader of lines leaves out as well, in a crate that this one does not use.
 fn without_return(line: &[u8]) -> &[u8] {
     line.strip_suffix(b"\r").unwrap_or(line)
 }
