@@ -31,7 +31,7 @@ enum Kind {
     Other,
 }
 
-// A table, since a `match` on the bytes of so many names takes minutes to prove.
+// A table: with a `match` on the bytes of the names, each byte of each name is a test, and the proof was four times as large.
 const KINDS: [(&str, Kind); 21] = [
     ("AvrStatus", Kind::AvrStatus),
     ("DspStatus", Kind::DspStatus),
