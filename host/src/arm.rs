@@ -29,7 +29,23 @@ pub struct ArmState {
 }
 
 impl ArmSequencer {
-    /// An arm of a Mevo, and what to send first.
+    /// Takes a Mevo without asking: use `new_for(result.model)` with the
+    /// model that the DSP's result names. An arm of a Mevo, and what to send
+    /// first.
+    ///
+    /// ```compile_fail
+    /// #![deny(deprecated)]
+    /// let _ = wigtalom::ArmSequencer::new();
+    /// ```
+    ///
+    /// ```
+    /// #![allow(deprecated)]
+    /// let (arm, _) = wigtalom::ArmSequencer::new();
+    /// assert!(arm.state().wait_pi);
+    /// ```
+    #[deprecated(
+        note = "takes a Mevo without asking: use `new_for(result.model)` with the model that the DSP's result names"
+    )]
     #[must_use]
     pub fn new() -> (Self, Vec<Action>) {
         Self::begun(&ffi::wigtalom_arm_new())

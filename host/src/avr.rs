@@ -60,7 +60,23 @@ pub struct AvrState {
 }
 
 impl AvrSequencer {
-    /// A start-up of a Mevo, and what to send first.
+    /// Takes a Mevo without asking: use `new_for(result.model)` with the
+    /// model that the DSP's result names. A start-up of a Mevo, and what to
+    /// send first.
+    ///
+    /// ```compile_fail
+    /// #![deny(deprecated)]
+    /// let _ = wigtalom::AvrSequencer::new();
+    /// ```
+    ///
+    /// ```
+    /// #![allow(deprecated)]
+    /// let (avr, _) = wigtalom::AvrSequencer::new();
+    /// assert_eq!(avr.state().model, wigtalom::DeviceModel::Mevo);
+    /// ```
+    #[deprecated(
+        note = "takes a Mevo without asking: use `new_for(result.model)` with the model that the DSP's result names"
+    )]
     #[must_use]
     pub fn new() -> (Self, Vec<Action>) {
         Self::begun(&ffi::wigtalom_avr_new())

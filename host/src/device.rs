@@ -5,6 +5,10 @@ use crate::convert;
 use crate::ffi;
 use crate::message::{DevInfoResp, Envelope};
 
+/// `default()` takes a Mevo without asking: use `new_for(result.model)` with
+/// the model that the DSP's result names. No compiler warns of it, since the
+/// `impl` of a trait can't be deprecated.
+///
 /// The models that are told apart. A Mevo+ and a Mevo Gen2 are both `Mevo`.
 #[derive(Debug, Clone, Copy, PartialEq, Eq, Hash, Default)]
 #[non_exhaustive]

@@ -2,11 +2,11 @@
 //! with what stands in it beside a record that is told as absent. No call gives
 //! such a state, so the library is called as C would.
 
+use crate::BusAddr;
 use crate::ffi::{self, Lent};
 use crate::message::{ConfigAck, Envelope, Message};
 use crate::records::{CArm, CAvr, CAvrConfig, CDsp, CPi};
 use crate::settings::AvrSettings;
-use crate::BusAddr;
 
 const TEXT_TOO_LONG: u8 = 1;
 const READING_TOO_LARGE: u8 = 3;

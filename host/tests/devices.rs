@@ -318,10 +318,8 @@ fn a_mode_change_of_each() {
 fn arms_and_disarms() {
     for made in [Made::Xi, Made::Plus, Made::Gen2] {
         let mut device = Device::new(made);
-        let (mut seq, first) = match made {
-            Made::Xi => ArmSequencer::new_for(DeviceModel::Xi),
-            _ => ArmSequencer::new(),
-        };
+        let (_, result) = start_dsp(&mut device);
+        let (mut seq, first) = ArmSequencer::new_for(result.model);
         let sent = drive(&mut device, first, |env| seq.feed(env).unwrap());
         let mut expected = to(BusAddr::Dsp, [poll()]);
         let arm = Command::AvrConfigCmd(AvrConfigCmd { arm: true });

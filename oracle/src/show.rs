@@ -5,7 +5,7 @@ use std::io::{self, BufRead, Write};
 use std::sync::LazyLock;
 
 use crate::front::{Front, without_mark};
-use crate::list::{self, Call, Which};
+use crate::list::{self, Begin, Call, Which};
 use crate::papers;
 use crate::running::{Step, View};
 use crate::write;
@@ -97,6 +97,9 @@ impl Show {
     }
 
     fn answer(&self, call: &Call, before: Option<View>, answer: &str, out: &mut Vec<u8>) {
+        if gives_no_model(call) {
+            indented(out, "model Mevo by default");
+        }
         let after = self.front.view();
         let which = after.map(|view| view.which);
         let now = match call {
@@ -174,6 +177,14 @@ pub fn run(list: &mut dyn BufRead, to: &mut dyn Write, with_state: bool) -> io::
     show.finish(&mut out);
     to.write_all(&out)?;
     to.flush()
+}
+
+/// Whether the call takes a Mevo since its line gives no model.
+fn gives_no_model(call: &Call) -> bool {
+    matches!(
+        call,
+        Call::Begin(Begin::Avr(None) | Begin::Arm(None)) | Call::Keepalive { model: None }
+    )
 }
 
 // ---- words

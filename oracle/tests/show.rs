@@ -114,6 +114,37 @@ fn ticked_awaited_or_not() {
     assert!(shown("mode_only mode=5\n", false).contains("    accepted\n    send Avr"));
 }
 
+#[test]
+fn a_model_by_default() {
+    let list = "avr\n  arm\t\r\nkeepalive\n";
+    check(
+        list,
+        &[
+            "avr",
+            "    model Mevo by default",
+            "    send Avr StatusPoll pi_mode=false",
+            "    now WaitStatus1",
+            "  arm ",
+            "    model Mevo by default",
+            "    send Dsp StatusPoll pi_mode=false",
+            "    now WaitDspStatus",
+            "keepalive",
+            "    model Mevo by default",
+            "    send Dsp StatusPoll pi_mode=false",
+            "    send Avr StatusPoll pi_mode=false",
+            "    send Pi StatusPoll pi_mode=true",
+        ],
+    );
+    assert!(!answers(list, true).contains("default"));
+    let given = "avr Mevo\navr Xi\narm Mevo\narm Xi\nkeepalive Mevo\nkeepalive Xi\n";
+    let none_taken =
+        "dsp\npi\ndisarm\nmode_only mode=9\nfeed 0 Avr 1 Other\nmodel\nack Mevo Avr 0xD4\n";
+    let unread = "avr mevo\narm x\nkeepalive Mevo Mevo\n";
+    for list in [given, none_taken, unread] {
+        assert!(!shown(list, true).contains("default"), "{list}");
+    }
+}
+
 /// A feed of a `CamConfig`.
 fn papers_camera() -> String {
     let papers = repository("docs/REPLAY.md");

@@ -35,8 +35,11 @@ impl fmt::Display for Step {
 
 impl ArmCalls {
     // An arm that begins.
-    pub fn begin(model: DeviceModel, out: &mut Text) -> io::Result<ArmCalls> {
-        let started = ArmSequencer::new_for(model);
+    pub fn begin(model: Option<DeviceModel>, out: &mut Text) -> io::Result<ArmCalls> {
+        let started = match model {
+            Some(model) => ArmSequencer::new_for(model),
+            None => ArmSequencer::new(),
+        };
         let calls = ArmCalls { arm: started.seq };
         calls.begun(&started.outcome, out)
     }

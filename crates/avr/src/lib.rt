@@ -64,13 +64,14 @@ fn accepted(moved: Moved<AvrState>, now: u64) -> Answer<AvrSequencer>
 }
 
 impl AvrSequencer {
-    // A start-up of a Mevo.
+    /// Takes a Mevo without asking: use `new_for(result.model)` with the model that the DSP's result names.
     pub fn new() -> Answer<AvrSequencer>
         ensures { result ≡ begun DeviceModel.Mevo }
     {
         AvrSequencer::new_for(DeviceModel::Mevo)
     }
 
+    /// A start-up of this model.
     pub fn new_for(model: DeviceModel) -> Answer<AvrSequencer>
         ensures { result ≡ begun model }
     {

@@ -44,8 +44,11 @@ impl fmt::Display for Step {
 
 impl AvrCalls {
     // A start-up that begins.
-    pub fn begin(model: DeviceModel, out: &mut Text) -> io::Result<AvrCalls> {
-        let started = AvrSequencer::new_for(model);
+    pub fn begin(model: Option<DeviceModel>, out: &mut Text) -> io::Result<AvrCalls> {
+        let started = match model {
+            Some(model) => AvrSequencer::new_for(model),
+            None => AvrSequencer::new(),
+        };
         let calls = AvrCalls { avr: started.seq };
         calls.begun(&started.outcome, out)
     }

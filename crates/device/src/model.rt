@@ -5,6 +5,7 @@ ghost use Rattle.device.specs.Model.{model_of, model_in, has_camera, has_factory
 use crate::search;
 use protocol::DevInfoResp;
 
+/// Has no `Default`, which in seq.rs takes a Mevo without asking: use `new_for(result.model)` with the model that the DSP's result names.
 #[derive(Clone, Copy, PartialEq, Eq)]
 pub enum DeviceModel {
     // Mevo+ or Mevo Gen2: radar and camera

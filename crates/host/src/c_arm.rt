@@ -54,6 +54,7 @@ fn unknown() -> CArm
     }
 }
 
+/// Takes a Mevo without asking: use `wigtalom_arm_new_for` with the model of the DSP's result.
 #[unsafe(no_mangle)]
 pub extern "C" fn wigtalom_arm_new() -> CArmFed
     ensures { result ≡ arm_new }

@@ -101,6 +101,7 @@ fn unknown() -> CAvr
     }
 }
 
+/// Takes a Mevo without asking: use `wigtalom_avr_new_for` with the model of the DSP's result.
 #[unsafe(no_mangle)]
 pub extern "C" fn wigtalom_avr_new() -> CAvrFed
     ensures { result ≡ avr_new }

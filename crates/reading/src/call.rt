@@ -14,12 +14,14 @@ use words::{Bad, LINE, Reader, Reason, Value, named};
 #[derive(Clone, Copy)]
 pub enum Sequence {
     Dsp,
-    Avr(DeviceModel),
+    // with the model, if one is given
+    Avr(Option<DeviceModel>),
     Pi,
     // with the settings that stand in `Lent`: here they would make each call four times as large, which is copied and cleared several times a line
     AvrConfig,
     Disarm,
-    Arm(DeviceModel),
+    // with the model, if one is given
+    Arm(Option<DeviceModel>),
 }
 
 // What a call is lent: bytes, and the settings of a run that it begins. Only a line that is too long could have more bytes than there is room for.
@@ -150,12 +152,12 @@ fn its_call(has: Option<bool>) -> Result<(), Bad> {
     Err(Bad { at: 0, why })
 }
 
-// A model, or a Mevo where the line ends.
-fn model_or_mevo(reader: &mut Reader<'_>) -> Result<DeviceModel, Bad> {
+// A model, if one is given.
+fn given_model(reader: &mut Reader<'_>) -> Result<Option<DeviceModel>, Bad> {
     if reader.is_done() {
-        return Ok(DeviceModel::Mevo);
+        return Ok(None);
     }
-    reader.next()
+    Ok(Some(reader.next()?))
 }
 
 fn read_feed<'b>(reader: &mut Reader<'_>, lent: &'b mut Lent) -> Result<Call<'b>, Bad> {
@@ -244,13 +246,13 @@ fn read_sequence(
 ) -> Result<Sequence, Bad> {
     *settings = match begin {
         Begin::Dsp => return Ok(Sequence::Dsp),
-        Begin::Avr => return Ok(Sequence::Avr(model_or_mevo(reader)?)),
+        Begin::Avr => return Ok(Sequence::Avr(given_model(reader)?)),
         Begin::Pi => return Ok(Sequence::Pi),
         Begin::AvrConfig => avr_config(reader)?,
         Begin::ModeOnly => mode_only(reader)?,
         Begin::MevoSettings => mevo_settings(reader)?,
         Begin::Disarm => return Ok(Sequence::Disarm),
-        Begin::Arm => return Ok(Sequence::Arm(model_or_mevo(reader)?)),
+        Begin::Arm => return Ok(Sequence::Arm(given_model(reader)?)),
     };
     Ok(Sequence::AvrConfig)
 }

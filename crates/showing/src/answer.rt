@@ -11,7 +11,7 @@ const INDENT: usize = 4;
 
 const HANG: usize = 8;
 
-fn line<W: Write>(out: &mut W, s: &[u8]) -> io::Result<()> {
+pub fn line<W: Write>(out: &mut W, s: &[u8]) -> io::Result<()> {
     fold::blanks(out, INDENT)?;
     fold::rest(out, s, INDENT, HANG)
 }

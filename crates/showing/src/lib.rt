@@ -102,3 +102,8 @@ pub fn mark<W: Write>(out: &mut W, line: &[u8], place: usize) -> io::Result<()> 
     }
     writeln!(out, "{:column$}^", "")
 }
+
+// Writes, before the answer to a call, that it takes a Mevo since its line gives no model.
+pub fn model_by_default<W: Write>(out: &mut W) -> io::Result<()> {
+    answer::line(out, b"model Mevo by default")
+}

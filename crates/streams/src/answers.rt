@@ -2,7 +2,7 @@
 use crate::Failure;
 use crate::lines::Line;
 use crate::running::Sequence;
-use reading::Call;
+use reading::{Call, DeviceCall};
 use showing::Shown;
 use std::alloc::Global;
 use std::io;
@@ -74,6 +74,15 @@ fn show_call(shown: &mut Shown, call: &Call<'_>) {
     }
 }
 
+// Whether a call takes a Mevo since its line gives no model.
+fn gives_no_model(call: &Call<'_>) -> bool {
+    matches!(
+        call,
+        Call::Begin(reading::Sequence::Avr(None) | reading::Sequence::Arm(None))
+            | Call::Device(DeviceCall::Keepalive)
+    )
+}
+
 // Not a `From`: both types are of crates below, where the lower one knows no models.
 fn shown_sequence(sequence: &reading::Sequence) -> showing::tables::Sequence {
     match sequence {
@@ -124,11 +133,15 @@ impl<W: Write + Drop> Answers<W> {
         Ok(())
     }
 
-    // Before the answer to a call.
-    pub fn call(&mut self, call: &Call<'_>) {
+    // Before the answer to a call. If the list is shown, a model that is taken by default is told.
+    pub fn call(&mut self, call: &Call<'_>) -> io::Result<()> {
         if let Some(shown) = &mut self.shown {
             show_call(shown, call);
+            if gives_no_model(call) {
+                showing::model_by_default(&mut self.output)?;
+            }
         }
+        Ok(())
     }
 
     // Answers a line that can't be read. Below one that is shown the place is marked.

@@ -153,7 +153,7 @@ pub fn run<S: Sequence + Drop, R: Read + Drop, W: Write + Drop>(
         let read = read_line(line.text, S::CALLS, &mut list.lent);
         match &read {
             Ok(Some(call)) => {
-                list.answers.call(call);
+                list.answers.call(call)?;
                 if let Call::Begin(next) = call {
                     return Ok(Some(*next));
                 }

@@ -188,7 +188,9 @@ fn wall(seconds: u64) -> SystemTime {
     UNIX_EPOCH + Duration::from_secs(seconds & (u64::MAX >> 1))
 }
 
-/// Begins a sequence on both sides.
+/// Begins a sequence on both sides. Where a list gives no model, by the very
+/// `new` that takes a Mevo.
+#[allow(deprecated)]
 pub fn begin(begin: &Begin, to: &mut Answers) -> Box<dyn Running> {
     match begin {
         Begin::Dsp => Pair::begin(rust::DspSequencer::new(), wigtalom::DspSequencer::new(), to),
