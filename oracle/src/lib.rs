@@ -2,10 +2,14 @@
 //! records, with the two clocks of `seq` handed in; and the front end that
 //! runs lists of calls with them.
 
+// The copied files stay as they are, byte for byte.
+#[rustfmt::skip]
 #[path = "../ironsight/src/addr.rs"]
 pub mod addr;
+#[rustfmt::skip]
 #[path = "../ironsight/src/conn.rs"]
 pub mod conn;
+#[rustfmt::skip]
 #[path = "../ironsight/src/protocol/mod.rs"]
 pub mod protocol;
 

@@ -1,4 +1,5 @@
-//! The numbers with which a call is declined, from document 01.
+//! The numbers with which a call is declined, from docs/SCOPE.md,
+//! "Refusals".
 
 /// The most bytes of a text or a payload.
 pub const LONGEST: usize = 256;

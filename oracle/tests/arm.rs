@@ -1,4 +1,4 @@
-//! Arms. The answers are written by hand from document 01 and
+//! Arms. The answers are written by hand from docs/SCOPE.md, "Arm", and
 //! docs/REPLAY.md.
 
 mod common;
@@ -163,7 +163,7 @@ fn done(bytes: &str) -> bool {
     answers(&format!("{lines}\n{feed}"), false).ends_with("; Done\n")
 }
 
-/// The first and "ARMED CANCELLED" are trials of document 01.
+/// The first and "ARMED CANCELLED" are trials of docs/SCOPE.md, "Trials".
 #[test]
 fn texts() {
     for text in [

@@ -1,5 +1,5 @@
-//! Start-ups of an AVR. The answers are written by hand from document 01
-//! and docs/REPLAY.md.
+//! Start-ups of an AVR. The answers are written by hand from docs/SCOPE.md,
+//! "AVR start-up", and docs/REPLAY.md.
 
 mod common;
 
@@ -207,7 +207,7 @@ fn xi_with_and_without_calibration() {
     );
 }
 
-/// A trial of document 01.
+/// A trial of docs/SCOPE.md, "Trials".
 #[test]
 fn a_refused_poll_is_sent_once_more() {
     let nack = |now: u64| format!("feed {now} {NACK}");

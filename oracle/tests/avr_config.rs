@@ -1,5 +1,5 @@
-//! Settings runs. The answers are written by hand from document 01 and
-//! docs/REPLAY.md.
+//! Settings runs. The answers are written by hand from docs/SCOPE.md,
+//! "Settings run", and docs/REPLAY.md.
 
 mod common;
 
@@ -252,7 +252,7 @@ fn params(count: usize) -> String {
         .collect()
 }
 
-/// Trials of document 01: every entry, with so many sends in all.
+/// Trials of docs/SCOPE.md, "Trials": every entry, with so many sends in all.
 #[test]
 fn sends() {
     let sends = |line: &str, entries: usize| {

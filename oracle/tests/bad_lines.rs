@@ -16,7 +16,9 @@ fn check(line: &str, column: usize, reason: &str) {
     };
     // behind the reason may stand what to write instead
     let told = format!("bad line at column {column}: {reason}");
-    let rest = answer.strip_prefix(&told).unwrap_or_else(|| panic!("{answer}, not {told}"));
+    let rest = answer
+        .strip_prefix(&told)
+        .unwrap_or_else(|| panic!("{answer}, not {told}"));
     assert!(rest.is_empty() || rest.starts_with(": "), "{answer}");
 }
 
@@ -211,7 +213,11 @@ fn of_the_sequence() {
     assert!(read(Which::Dsp, "take"));
     assert!(read(Which::Arm, " retries "));
     let extra = list::read(b"retries 1", Some(Which::Arm)).err().unwrap();
-    assert!(extra.to_string().starts_with("bad line at column 9: end of line expected"));
+    assert!(
+        extra
+            .to_string()
+            .starts_with("bad line at column 9: end of line expected")
+    );
 }
 
 #[test]
@@ -459,9 +465,13 @@ fn hints() {
         ("feed 1 Dsp 0xAA Dspstatus".to_string(), 17, kind),
     ] {
         let bad = read(&line).err().expect("a bad line");
-        assert_eq!(bad.to_string(), format!("bad line at column {column}: {told}"));
+        assert_eq!(
+            bad.to_string(),
+            format!("bad line at column {column}: {told}")
+        );
     }
     let early = list::read(b"check 1", None).err().expect("a bad line");
-    let told = "bad line at column 1: no sequence has begun: a line such as dsp, avr Xi or arm begins one";
+    let told =
+        "bad line at column 1: no sequence has begun: a line such as dsp, avr Xi or arm begins one";
     assert_eq!(early.to_string(), told);
 }

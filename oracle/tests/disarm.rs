@@ -1,4 +1,4 @@
-//! Disarms. The answers are written by hand from document 01 and
+//! Disarms. The answers are written by hand from docs/SCOPE.md, "Disarm", and
 //! docs/REPLAY.md.
 
 mod common;

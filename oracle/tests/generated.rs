@@ -88,7 +88,7 @@ fn lists_of_start_ups_have_no_other_words() {
     }
 }
 
-/// What a long arm meets is demanded where there is one, and met.
+/// What a long arm meets is asked for where there is one, and met.
 #[test]
 fn a_long_arm() {
     let mut source = Source::of_calls(LONG_ARM_CALLS, 5, LONG_ARM, false);

@@ -1,5 +1,6 @@
 //! Whole lists of a DSP, and single sends. The answers are written by hand
-//! from document 01 and docs/REPLAY.md.
+//! from docs/SCOPE.md, "DSP start-up" and "Model and single sends", and
+//! docs/REPLAY.md.
 
 mod common;
 

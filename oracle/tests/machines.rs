@@ -4,10 +4,8 @@
 mod common;
 
 use std::collections::BTreeSet;
-use std::fs;
-use std::path::Path;
 
-use common::{PARAMS, answers};
+use common::{answers, message, repository};
 
 const SECOND: u64 = 1_000_000_000;
 
@@ -21,11 +19,6 @@ struct Arrow {
     tick: String,
     model: Option<String>,
     send: String,
-}
-
-fn repository(path: &str) -> String {
-    let root = Path::new(env!("CARGO_MANIFEST_DIR")).parent().unwrap();
-    fs::read_to_string(root.join(path)).unwrap()
 }
 
 /// The arrows of a section's picture, the one from the beginning first.
@@ -67,48 +60,7 @@ fn call(tick: &str, model: &str, now: u64) -> String {
     if tick.starts_with("check after 2 s") {
         return format!("check {}", now + SECOND);
     }
-    let (message, src) = tick.split_once(" from ").unwrap_or((tick, "App"));
-    let mut words = message.split(' ');
-    let kind = words.next().unwrap();
-    let acked = words.next().filter(|word| word.starts_with("0x"));
-    let said = message.split('"').nth(1).unwrap_or("");
-    let fields = fields(kind, acked.unwrap_or("0"));
-    let bytes = match kind {
-        "Text" => format!(" text=\"{said}\""),
-        "DevInfoResp" if model == "Xi" => " payload=\"FS Xi\"".to_string(),
-        _ => String::new(),
-    };
-    format!("feed {now} {src} 0 {kind}{fields}{bytes}")
-}
-
-fn fields(kind: &str, acked: &str) -> String {
-    match kind {
-        "DspStatus" => " V46 state=1 version=0x46".to_string(),
-        "AvrStatus" => {
-            let zero = "0x0000000000000000";
-            let ids = "version=24 state=0 hw_id_hi=0 hw_id_lo=0 full_app_id=0";
-            format!(" {ids} temperature={zero} tilt={zero} roll={zero}")
-        }
-        "ConfigAck" | "ConfigNack" => format!(" bus_addr=0x30 acked_cmd={acked}"),
-        "ModeSet" => " mode=1".to_string(),
-        "ParamValue" => " param_id=0 int24=0".to_string(),
-        "RadarCal" => " range_mm=1 height_mm=1".to_string(),
-        "ConfigResp" => format!(" params={PARAMS}"),
-        "DspQueryResp" => " version=2 dsp_type=0x80 pcb=14".to_string(),
-        "TimeSync" => " epoch=0 session=0 tail=0000".to_string(),
-        "CamConfig" => camera(),
-        _ => String::new(),
-    }
-}
-
-/// The fields of a `CamConfig` as docs/REPLAY.md shows them.
-fn camera() -> String {
-    let papers = repository("docs/REPLAY.md");
-    let row = papers
-        .lines()
-        .find(|line| line.starts_with("| `CamConfig` | `"))
-        .unwrap();
-    format!(" {}", row.split('`').nth(3).unwrap())
+    message(tick, model, now)
 }
 
 /// Runs a list, and holds the answer to its last line to an arrow.

@@ -1,5 +1,5 @@
-//! Start-ups of a Pi. The answers are written by hand from document 01 and
-//! docs/REPLAY.md.
+//! Start-ups of a Pi. The answers are written by hand from docs/SCOPE.md,
+//! "Pi start-up", and docs/REPLAY.md.
 
 mod common;
 
@@ -89,7 +89,7 @@ fn check_network(network: &str, stored: &str) {
     check_pairs(&pairs);
 }
 
-/// The first two are trials of document 01.
+/// The first two are trials of docs/SCOPE.md, "Trials".
 #[test]
 fn whole_start_ups() {
     check_network("\"a\\x00b\\x00c\"", "ssid=61|a| password=620063|b.c|");

@@ -44,5 +44,5 @@ fn examples() {
         assert!(answers.contains("; Done\n"), "{path:?}");
         read += 1;
     }
-    assert!(read >= 9);
+    assert!(read >= 10);
 }

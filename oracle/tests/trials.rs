@@ -1,4 +1,4 @@
-//! Trials of document 01, run with the Rust.
+//! Trials of docs/SCOPE.md, "Trials", run with the Rust.
 
 use std::fs;
 use std::time::{Duration, Instant, UNIX_EPOCH};

@@ -17,9 +17,9 @@ SEQUENCE: dsp, avr, pi, avr_config, disarm or arm";
 /// The lines that are shown of a list with a difference.
 const MOST_SHOWN: usize = 1_000;
 
-/// Why the limit of retries isn't demanded.
+/// Why the limit of retries isn't asked for.
 const NO_LONG_ARM: &str =
-    "not demanded: an arm with 65535 nacks (retries 65535, refused 13), which is made from";
+    "not asked for: an arm with 65535 nacks (retries 65535, refused 13), which is made from";
 
 struct Task {
     calls: u64,

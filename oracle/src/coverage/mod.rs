@@ -212,9 +212,9 @@ impl Counts {
                 }
             }
         }
-        let demanded = |name: &str| long_arm || !arm::LONG.contains(&name);
+        let wanted = |name: &str| long_arm || !arm::LONG.contains(&name);
         let answers = self.table.answers.iter().zip(&self.answers);
-        let never = answers.filter(|(name, count)| **count == 0 && demanded(name));
+        let never = answers.filter(|(name, count)| **count == 0 && wanted(name));
         missing.extend(never.map(|(name, _)| format!("{word}: {name}")));
         missing
     }

@@ -3,6 +3,9 @@
 // No test uses all of it.
 #![allow(dead_code)]
 
+use std::fs;
+use std::path::Path;
+
 use oracle::front;
 
 pub const PARAMS: &str = "1,-2,3,4,5,6,7,8,9,10,11,12,13,14,15,16,17,18,19,20,21,22,23,24,25,26,27,28,\
@@ -69,4 +72,58 @@ pub fn check_last_states(list: &str, expected: &[&str]) {
 fn state(answer: &str) -> &str {
     let found = answer.split_once("; state");
     found.map_or(answer, |(_, state)| state.trim_start())
+}
+
+pub fn repository(path: &str) -> String {
+    let root = Path::new(env!("CARGO_MANIFEST_DIR")).parent().unwrap();
+    fs::read_to_string(root.join(path)).unwrap()
+}
+
+/// The feed of a message that is named with its source; without one it comes
+/// from App. Bytes and one number differ from reading to reading.
+pub fn message(named: &str, model: &str, now: u64) -> String {
+    let (message, src) = named.split_once(" from ").unwrap_or((named, "App"));
+    let mut words = message.split(' ');
+    let kind = words.next().unwrap();
+    let acked = words.next().filter(|word| word.starts_with("0x"));
+    let said = message.split('"').nth(1).unwrap_or("");
+    let fields = fields(kind, acked.unwrap_or("0"), now);
+    let bytes = match kind {
+        "Text" => format!(" text=\"{said}\""),
+        "DevInfoResp" => format!(" text=\"{now}\" payload=\"FS {model}\""),
+        "ProdInfoResp" | "NetConfigResp" => format!(" text=\"{now}\\x00{now}\""),
+        _ => String::new(),
+    };
+    format!("feed {now} {src} 0 {kind}{fields}{bytes}")
+}
+
+fn fields(kind: &str, acked: &str, now: u64) -> String {
+    match kind {
+        "DspStatus" => " V46 state=1 version=0x46".to_string(),
+        "AvrStatus" => {
+            let zero = "0x0000000000000000";
+            let ids = "version=24 state=0 hw_id_hi=0 hw_id_lo=0";
+            let id = now / 1_000_000_000;
+            format!(" {ids} full_app_id={id} temperature={zero} tilt={zero} roll={zero}")
+        }
+        "ConfigAck" | "ConfigNack" => format!(" bus_addr=0x30 acked_cmd={acked}"),
+        "ModeSet" => " mode=1".to_string(),
+        "ParamValue" => " param_id=0 int24=0".to_string(),
+        "RadarCal" => " range_mm=1 height_mm=1".to_string(),
+        "ConfigResp" => format!(" params={PARAMS}"),
+        "DspQueryResp" => " version=2 dsp_type=0x80 pcb=14".to_string(),
+        "TimeSync" => " epoch=0 session=0 tail=0000".to_string(),
+        "CamConfig" => camera(),
+        _ => String::new(),
+    }
+}
+
+/// The fields of a `CamConfig` as docs/REPLAY.md shows them.
+fn camera() -> String {
+    let papers = repository("docs/REPLAY.md");
+    let row = papers
+        .lines()
+        .find(|line| line.starts_with("| `CamConfig` | `"))
+        .unwrap();
+    format!(" {}", row.split('`').nth(3).unwrap())
 }

@@ -1,0 +1,111 @@
+//! The tables of docs/SCOPE.md against the Rust: what ticks each entry of a
+//! start-up or a disarm and what doesn't, the sends, the steps, and the
+//! fields that change.
+
+mod common;
+
+use common::{answers, message, repository};
+
+const SECOND: u64 = 1_000_000_000;
+
+/// The rows of a section's table that a model has.
+fn table(section: &str, model: &str) -> Vec<Vec<String>> {
+    let papers = repository("docs/SCOPE.md").replace('`', "");
+    let (_, rest) = papers.split_once(&format!("\n## {section}\n")).unwrap();
+    let rows = rest.lines().skip_while(|line| !line.starts_with('|'));
+    let rows = rows.take_while(|line| line.starts_with('|')).skip(2);
+    let cells = |row: &str| row.split('|').map(|c| c.trim().to_string()).collect();
+    let own = |row: &Vec<String>| !row[1].ends_with("only") || row[1].contains(model);
+    rows.map(cells).filter(own).collect()
+}
+
+/// The answer to the last line of a list with one more, and the state then.
+fn last(list: &str, call: &str) -> (String, String) {
+    let answers = answers(&format!("{list}{call}"), true);
+    let (_, answer) = answers.lines().last().unwrap().split_once(": ").unwrap();
+    let (answer, state) = answer.split_once("; state").unwrap();
+    let answer = answer.replace("|..........|", "").replace("send ", "");
+    (answer, state.replace(" params=", " config="))
+}
+
+/// A stored field, up to the next of these names.
+fn field<'a>(state: &'a str, names: &[&str], name: &str) -> &'a str {
+    let (_, rest) = state.split_once(&format!(" {name}=")).unwrap();
+    let others = names.iter().filter(|other| **other != name);
+    let ends = others.filter_map(|other| rest.find(&format!(" {other}=")));
+    &rest[..ends.min().unwrap_or(rest.len())]
+}
+
+/// What a cell says is sent on a model.
+fn sends(cell: &str, model: &str) -> String {
+    let of = format!("of a {model} ");
+    let own = cell.split("; ").find_map(|part| part.strip_prefix(&of));
+    let own = own.unwrap_or(cell).replace(", and it is done", "");
+    own.replace("nothing", "no send").replace("EPOCH", "0")
+}
+
+/// The fields that a cell says this tick stores.
+fn stores<'a>(cell: &'a str, tick: &str) -> Vec<&'a str> {
+    let parts = cell
+        .split("; ")
+        .filter(|part| !["nothing", ""].contains(part));
+    let parts = parts.map(|part| part.split_once(" by the ").unwrap_or((part, "")));
+    let own = parts.filter(|(_, way)| tick.contains(way));
+    own.map(|(part, _)| part.split(',').next().unwrap())
+        .collect()
+}
+
+/// Takes every row by each of its ticks, and the rows before it by their first.
+fn walk(section: &str, begin: &str, model: &str, names: &str) {
+    let names: Vec<&str> = names.split_whitespace().collect();
+    let rows = table(section, model);
+    let (mut list, mut call) = (String::new(), begin.to_string());
+    for (i, row) in rows.iter().enumerate() {
+        list = format!("{list}{call}\n");
+        let (_, state) = last(&list, "");
+        let (before, now) = (3 * SECOND * i as u64, 3 * SECOND * (i as u64 + 1));
+        let next = rows.get(i + 1).map_or("Done", |row| &row[2]);
+        let (number, sent) = (row[1].split(',').next().unwrap(), sends(&row[4], model));
+        let expected = format!("accepted; ticked {number}; {sent}; {next} ");
+        for tick in row[3].rsplit("; or ") {
+            let idle;
+            if let Some((_, wait)) = tick.split_once("a check at least ") {
+                let wait = wait.split(' ').next().unwrap().replace(',', "");
+                let due = before + wait.parse::<u64>().unwrap();
+                (call, idle) = (format!("check {due}"), format!("check {}", due - 1));
+            } else {
+                // the same from App; where that counts, another kind
+                let other = tick.split_once(" from ").unwrap_or(("ConfigAck", ""));
+                (call, idle) = (message(tick, model, now), message(other.0, model, now));
+            }
+            assert!(last(&list, &idle).0.starts_with("accepted; no send; "));
+            let (answer, after) = last(&list, &call);
+            assert!(
+                format!("{answer} ").starts_with(&expected),
+                "{row:?} {answer}"
+            );
+            let changes = |n: &&&str| field(&state, &names, n) != field(&after, &names, n);
+            let compared = names.iter().filter(|name| !name.ends_with("deadline"));
+            let changed: Vec<&str> = compared.filter(changes).copied().collect();
+            assert_eq!(changed, stores(&row[5], tick), "{row:?} {tick}");
+        }
+    }
+    assert!(last(&list, &call).0.ends_with("; Done"), "{section}");
+}
+
+#[test]
+fn scope_of_start_ups_and_disarm() {
+    let dsp = "status hw_info dev_info prod_info config deadline refused power_mode_unanswered";
+    let avr = "status dev_info config factory_cal if_cal avr_config cal_deadline";
+    for model in ["Mevo", "Xi"] {
+        walk("DSP start-up", "dsp", model, dsp);
+        walk("AVR start-up", &format!("avr {model}"), model, avr);
+    }
+    walk(
+        "Pi start-up",
+        "pi",
+        "Mevo",
+        "dev_info cam_config ssid password",
+    );
+    walk("Disarm", "disarm", "Mevo", "");
+}
