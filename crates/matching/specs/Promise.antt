@@ -1,4 +1,4 @@
--- WHAT IS PROMISED of a sequencer that is called, over every list of its calls (01: "Ticking"). Said once, for any table and any kind
+-- WHAT IS PROMISED of a sequencer that is called, over every list of its calls (docs/SCOPE.md, "Ticking"). Said once, for any table and any kind
 -- of call; a sequence says which table, and what which call answers. Definitions only.
 -- Assumes nothing.
 use Rattle.std.specs.Prelude.{◌≡◌, ◌↔◌, cond, List, [], ◌∷◌, ◌++◌, map, ℕ, ◌-◌, ltb, length, get_or}
@@ -39,7 +39,7 @@ module _ {E S C : Type 0} (at : E → ℕ) (nil : E) (event : ℕ → C → List
   abbrev pub run : List C → List E
   run cs = events at event 0 cs
 
-  -- The table can be matched (01: ticked off) over the run of these calls.
+  -- The table can be matched (ticked off) over the run of these calls.
   abbrev pub Matched : Table E → List C → Type 0
   Matched T cs = (ps : List ℕ) × Matching at nil T (run cs) ps
 

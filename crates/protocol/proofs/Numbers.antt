@@ -3,12 +3,14 @@
 use mathlib.Core.Path.{◌≡◌, refl}
 use mathlib.Core.Bool.{Bool, true, false}
 use mathlib.Core.List.{List, [], ◌∷◌}
-use Prim.Native.Nat.{ℕ, ◌≤◌, ◌<◌}
+use Prim.Native.Nat.{ℕ, ◌≤◌}
 use native.Mathlib.Nat.{le_refl, le_trans, le_of_lt}
 use Rattle.protocol.specs.declared.Refusal.{Refusal}
 use Rattle.protocol.specs.declared.Refusal.TheVariants.{TextTooLong, PayloadTooLong, ReadingTooLarge, TooManyParams, ReadingBelowLast, NotDone, RetriesFull}
 use Rattle.std.specs.Prelude.{Err}
 use Rattle.protocol.specs.Refusals.{number, outcome, Applies, lowest}
+pub use Rattle.protocol.specs.Lowest.{Listed, here, there, Rises, end, then}
+use Rattle.protocol.specs.Lowest.{GivesLowest}
 
 pub outcome-number : (r : Refusal) → outcome (number r) ≡ Err r
 outcome-number TextTooLong = refl
@@ -18,16 +20,6 @@ outcome-number TooManyParams = refl
 outcome-number ReadingBelowLast = refl
 outcome-number NotDone = refl
 outcome-number RetriesFull = refl
-
--- the numbers rise, from n on
-pub data Rises : ℕ → List Applies → Type 0 where
-  end : {n : ℕ} → Rises n []
-  then : {n : ℕ} {a : Applies} {l : List Applies} → n < a.number → Rises a.number l → Rises n (a ∷ l)
-
--- an entry of the list
-pub data Listed (a : Applies) : List Applies → Type 0 where
-  here : {l : List Applies} → Listed a (a ∷ l)
-  there : {b : Applies} {l : List Applies} → Listed a l → Listed a (b ∷ l)
 
 -- in a list that rises no number lies below the one that it rises from
 above : {n : ℕ} {l : List Applies} {a : Applies} → Rises n l → Listed a l → n ≤ a.number
@@ -54,3 +46,15 @@ lowest_applies (there {b = b} {l = l} i) e = go (lowest_applies i e) b.holds ref
         → (c : Applies) × Listed c (b ∷ l) × (c.holds ≡ true) × (lowest (b ∷ l) ≡ c.number)
     go ih true p = (b, here, p, rw p)
     go ih false p = (ih.0, there ih.1, ih.2, rw p ih.3)
+
+none_of : (l : List Applies) → ((a : Applies) → Listed a l → a.holds ≡ false) → lowest l ≡ 0
+none_of [] h = refl
+none_of (b ∷ l) h = rw (h b here) (none_of l (λ a i. h a (there i)))
+
+-- so the number given of a list that rises is the lowest that applies
+pub gives_lowest : {n : ℕ} {l : List Applies} → Rises n l → GivesLowest l
+gives_lowest {l = l} r = record {
+  least = λ a i e. lowest_least r i e;
+  applies = λ a i e. lowest_applies i e;
+  none = none_of l;
+}

@@ -11,8 +11,9 @@ use borrow.Author.Tests.{ltb-false}
 use Rattle.protocol.specs.Refusals.{Applies, outcome, lowest}
 use Rattle.protocol.specs.declared.Refusal.{Refusal}
 use Rattle.std.specs.Prelude.{Result, Ok, Err}
-use Rattle.protocol.proofs.Numbers.{Rises, end, then, Listed, lowest_least}
-use Rattle.sequence.specs.Accepted.{applies, none, bytes_refusals, check_refusals, feed_refusals}
+use Rattle.protocol.proofs.Numbers.{Rises, end, then, gives_lowest}
+use Rattle.sequence.specs.Accepted.{applies, none, bytes_refusals, check_refusals, feed_refusals, result_refusals}
+use Rattle.sequence.specs.Lowest.{Theorem}
 
 abbrev pub accepted : Result (Unit {0}) Refusal → Bool
 accepted (Ok u) = true
@@ -104,12 +105,13 @@ bytes_rise x y =
     let two : 1 < 2 = omega arith in
     then one (then two end)
 
-pub bytes_lowest : (x y : List ℕ) (a : Applies) → Listed a (bytes_refusals x y) → a.holds ≡ true → lowest (bytes_refusals x y) ≤ a.number
-bytes_lowest x y a l h = lowest_least (bytes_rise x y) l h
+result_rise : (done : Bool) → Rises 0 (result_refusals done)
+result_rise done = let twelve : 0 < 12 = omega arith in then twelve end
 
-pub feed_lowest : (x y : List ℕ) (last t : ℕ) (a : Applies) → Listed a (feed_refusals x y last t) → a.holds ≡ true
-    → lowest (feed_refusals x y last t) ≤ a.number
-feed_lowest x y last t a l h = lowest_least (feed_rise x y last t) l h
-
-pub check_lowest : (last t : ℕ) (a : Applies) → Listed a (check_refusals last t) → a.holds ≡ true → lowest (check_refusals last t) ≤ a.number
-check_lowest last t a l h = lowest_least (check_rise last t 0 (omega arith)) l h
+pub lowest_given : Theorem
+lowest_given = record {
+  bytes = λ x y. gives_lowest (bytes_rise x y);
+  feed = λ x y last t. gives_lowest (feed_rise x y last t);
+  check = λ last t. gives_lowest (check_rise last t 0 (omega arith));
+  result = λ done. gives_lowest (result_rise done);
+}

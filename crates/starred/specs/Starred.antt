@@ -1,7 +1,7 @@
--- The starred trials of the scope (01: "Trials"), one row each: what the definitions that the contracts cite answer, and what the scope
--- says. Proved as a whole.
+-- The starred trials of the scope (docs/SCOPE.md, "Trials"), one row each: what the definitions that the contracts cite answer, and what the scope
+-- says. Proved as a whole, as the contract of `starred_trials`.
 -- Assumes nothing.
-use Rattle.std.specs.Prelude.{◌≡◌, refl, true, false, List, [], ◌∷◌, map, ℕ, Option, Some, None, Result, Ok}
+use Rattle.std.specs.Prelude.{true, false, List, [], ◌∷◌, ℕ, Option, Some, None, Result, Ok, codes}
 use Rattle.protocol.specs.declared.BusAddr.{BusAddr}
 use Rattle.protocol.specs.declared.DspStatus.{DspStatus}
 use Rattle.protocol.specs.declared.Command.{Command}
@@ -95,11 +95,11 @@ said text = (arm.fed_to last_step (plain BusAddr.Avr Message.Text text)).seq.ste
 abbrev pub starred : List Trial
 starred =
     -- payload "FS Xi": Xi
-    trial (model (model_of (70 ∷ 83 ∷ 32 ∷ 88 ∷ 105 ∷ []))) (model DeviceModel.Xi) ∷
+    trial (model (model_of (codes "FS Xi"))) (model DeviceModel.Xi) ∷
     -- "FS X": Mevo
-    trial (model (model_of (70 ∷ 83 ∷ 32 ∷ 88 ∷ []))) (model DeviceModel.Mevo) ∷
+    trial (model (model_of (codes "FS X"))) (model DeviceModel.Mevo) ∷
     -- "abFS Xi": Xi
-    trial (model (model_of (97 ∷ 98 ∷ 70 ∷ 83 ∷ 32 ∷ 88 ∷ 105 ∷ []))) (model DeviceModel.Xi) ∷
+    trial (model (model_of (codes "abFS Xi"))) (model DeviceModel.Xi) ∷
     -- Xi, Avr, 0xD4: ack 0x54
     trial (action (result_ack DeviceModel.Xi BusAddr.Avr 0xD4)) (action (Some (ack 0x54))) ∷
     -- 0xE8: ack 0x68
@@ -116,16 +116,13 @@ starred =
     -- again: nothing
     trial (outcome (avr.polled (avr.polled refused 2_000_000_000).seq 2_000_000_000).outcome) (outcome (Ok None)) ∷
     -- network text a,0,b,0,c: ssid a; password b,0,c
-    trial (bytes (ssid_in (network (97 ∷ 0 ∷ 98 ∷ 0 ∷ 99 ∷ [])))) (bytes (stored (97 ∷ []))) ∷
-    trial (bytes (password_in (network (97 ∷ 0 ∷ 98 ∷ 0 ∷ 99 ∷ [])))) (bytes (stored (98 ∷ 0 ∷ 99 ∷ []))) ∷
+    trial (bytes (ssid_in (network (codes "a\0b\0c")))) (bytes (stored (codes "a"))) ∷
+    trial (bytes (password_in (network (codes "a\0b\0c")))) (bytes (stored (codes "b\0c"))) ∷
     -- "range": ssid range, password empty
-    trial (bytes (ssid_in (network (114 ∷ 97 ∷ 110 ∷ 103 ∷ 101 ∷ [])))) (bytes (stored (114 ∷ 97 ∷ 110 ∷ 103 ∷ 101 ∷ []))) ∷
-    trial (bytes (password_in (network (114 ∷ 97 ∷ 110 ∷ 103 ∷ 101 ∷ [])))) (bytes (stored [])) ∷
+    trial (bytes (ssid_in (network (codes "range")))) (bytes (stored (codes "range"))) ∷
+    trial (bytes (password_in (network (codes "range")))) (bytes (stored [])) ∷
     -- arm, last step on Xi, Text "DISARMED": Done
-    trial (arming (said (68 ∷ 73 ∷ 83 ∷ 65 ∷ 82 ∷ 77 ∷ 69 ∷ 68 ∷ []))) (arming ArmStep.Done) ∷
+    trial (arming (said (codes "DISARMED"))) (arming ArmStep.Done) ∷
     -- "ARMED CANCELLED": not
-    trial (arming (said (65 ∷ 82 ∷ 77 ∷ 69 ∷ 68 ∷ 32 ∷ 67 ∷ 65 ∷ 78 ∷ 67 ∷ 69 ∷ 76 ∷ 76 ∷ 69 ∷ 68 ∷ []))) (arming (ArmStep.WaitPiAndArmed true false)) ∷
+    trial (arming (said (codes "ARMED CANCELLED"))) (arming (ArmStep.WaitPiAndArmed true false)) ∷
     []
-
-pub starred_right : map (λ t. t.answered) starred ≡ map (λ t. t.said) starred
-starred_right = refl
