@@ -1,13 +1,12 @@
 -- What decides a feed of an arm: the bytes first, then the step.
 -- Assumes nothing.
 use mathlib.Core.Path.{◌≡◌, sym, ap}
-use mathlib.Core.Bool.{true}
-use Prim.Native.Nat.{◌≤◌, ◌<◌}
+use Prim.Native.Nat.{◌<◌}
 use native.Mathlib.Omega.{arith}
 use Rattle.protocol.specs.declared.Refusal.{Refusal}
 use Rattle.std.specs.Prelude.{Result, Ok, Err}
-use Rattle.protocol.specs.Refusals.{Applies, outcome, lowest}
-use Rattle.protocol.proofs.Numbers.{Rises, end, then, Listed, lowest_least}
+use Rattle.protocol.specs.Refusals.{outcome, lowest}
+use Rattle.protocol.proofs.Numbers.{Rises, end, then, gives_lowest}
 use Rattle.sequence.specs.Accepted.{bytes_outcome}
 use Rattle.sequence.specs.Events.{Envelope}
 use Rattle.sequence.specs.Rows.{judged, refused}
@@ -15,6 +14,7 @@ use Rattle.sequence.proofs.Acceptance.{bytes_first, bytes_pass}
 use Rattle.sequence.proofs.Arms.{judged_refused}
 use Rattle.arm.specs.declared.ArmSequencer.{ArmSequencer}
 use Rattle.arm.specs.Answers.{accepted, retries_refusals, advance, arm_refusals, answered_at, fed_to}
+use Rattle.arm.specs.Lowest.{Theorem}
 
 -- where 1 and 2 don't apply the step decides; where one does, it is refused
 pub by_step : (s : ArmSequencer) (e : Envelope) → bytes_outcome e.text e.payload ≡ Ok tt → answered_at s.step s e ≡ fed_to s e
@@ -36,5 +36,5 @@ arm_rise s e =
     let thirteen : 2 < 13 = omega arith in
     then one (then two (then thirteen end))
 
-pub arm_lowest : (s : ArmSequencer) (e : Envelope) (a : Applies) → Listed a (arm_refusals s e) → a.holds ≡ true → lowest (arm_refusals s e) ≤ a.number
-arm_lowest s e a l h = lowest_least (arm_rise s e) l h
+pub lowest_given : Theorem
+lowest_given s e = gives_lowest (arm_rise s e)

@@ -7,28 +7,20 @@ use native.Mathlib.Omega.{arith}
 use mathlib.Core.Path.{◌≡◌, refl, sym, ◌∙◌}
 use mathlib.Core.Logic.{◌↔◌}
 use mathlib.Core.Bool.{Bool, true, false, true≢false}
-use mathlib.Core.List.{List, [], ◌∷◌, ◌++◌, map}
+use mathlib.Core.List.{List, [], ◌∷◌, ◌++◌}
 use lib.ListN.{length, get_or, drop, length-map, drop_of_length-le}
 use lib.Seq.{drop-cons}
-use Rattle.matching.specs.Matching.{Table, Matching, never}
+use Rattle.matching.specs.Matching.{never}
 use Rattle.matching.specs.Promise.{Each}
 use Rattle.matching.proofs.Machine.{Antitone, Rising, end, then, reading_of, ticks, ticked_from}
 use Rattle.matching.proofs.Embeds.{length-snoc}
 use Rattle.matching.proofs.Entries.{antitone_rows}
 use Rattle.matching.proofs.Ticked.{ticked_all, ticked_full}
 use Rattle.sequence.specs.Events.{Envelope}
-use Rattle.arm_runs.specs.Theorem.{in_order}
+use Rattle.arm_runs.specs.Theorem.{in_order, table_of, at, InOrder}
 
 abbrev Test : Type 0
 Test = Envelope → Bool
-
--- without a clock
-abbrev pub at : Envelope → ℕ
-at e = 0
-
--- the tests as a table
-abbrev pub table_of : List Test → Table Envelope
-table_of ts = map (λ t n e. t e) ts
 
 anti : (ts : List Test) → Each Antitone (table_of ts)
 anti ts = antitone_rows (λ t n e. t e) (λ t n n' e h p. p) ts
@@ -80,8 +72,7 @@ left ts [] es l = go (dec_lt (length es) (length ts))
         rw (drop_of_length-le ts all) (λ p. omega arith, λ p. refl)
 left ts (e ∷ r) es l = step ts r es e l (left ts r es l) (left ts r (es ++ e ∷ []))
 
--- d stands past the end of the list: nothing here looks there
-pub in_order_iff : (d : Envelope) (ts : List Test) (r : List Envelope) → (in_order ts r ≡ true) ↔ ((ps : List ℕ) × Matching at d (table_of ts) r ps)
+pub in_order_iff : InOrder
 in_order_iff d ts r =
     let all = ticked_all at d (table_of ts) (anti ts) r (rising r) in
     let from_First = left ts r [] zero-le in

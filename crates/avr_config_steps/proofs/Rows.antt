@@ -3,8 +3,6 @@
 use mathlib.Core.Path.{◌≡◌, refl, sym, ap}
 use mathlib.Core.Bool.{true, false, true≢false}
 use mathlib.Core.List.{[]}
-use lib.Dec.{eqb}
-use Rattle.protocol.specs.Addr.{byte_of}
 use Rattle.sequence.specs.Events.{Envelope, fed, plain}
 use Rattle.sequence.specs.Rows.{idle}
 use Rattle.sequence.proofs.Arms.{at_idles}
@@ -28,17 +26,6 @@ ticks q WaitModeCommitAck e h = rw h
 ticks q WaitRadarCalEcho e h = rw h
 ticks q WaitRadarCalCommitAck e h = rw h
 ticks q Done e h = absurd (true≢false (sym h))
-
--- no row has a reply from another device
-pub foreign : (q : AvrSettings) (k : AvrConfigStep) (e : Envelope) → eqb (byte_of e.src) 0x30 ≡ false → (row q k).reply e ≡ false
-foreign q WaitInitGateAck e h = rw h
-foreign q (WaitParamAck i) e h = rw h
-foreign q (WaitParamCommitAck i) e h = rw h
-foreign q WaitModeEcho e h = rw h
-foreign q WaitModeCommitAck e h = rw h
-foreign q WaitRadarCalEcho e h = rw h
-foreign q WaitRadarCalCommitAck e h = rw h
-foreign q Done e h = refl
 
 -- no row looks at more than the source and the message
 pub unread : (q : AvrSettings) (k : AvrConfigStep) (e : Envelope) → advance q k (fed (plain e.src e.message []) 0) ≡ advance q k (fed e 0)
