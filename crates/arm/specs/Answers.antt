@@ -1,4 +1,4 @@
--- What the calls of an arm answer (01: "Disarm and arm"): refused with the lowest number that applies, or by the step (crate arm_steps). There
+-- What the calls of an arm answer (docs/SCOPE.md, "Arm"): refused with the lowest number that applies, or by the step (crate arm_steps). There
 -- is no clock. Definitions only.
 -- Assumes nothing.
 use Rattle.std.specs.Prelude.{◌+◌, false, cond, ◌&&◌, List, [], ◌∷◌, ◌++◌, eqb, Some, Ok}

@@ -6,6 +6,7 @@
 ghost use Rattle.std.specs.Prelude.{◌≡◌, []};
 ghost use Rattle.device.specs.declared.model.DeviceModel.{DeviceModel};
 ghost use Rattle.arm.specs.Answers.{begun, counted, fed_to};
+ghost use Rattle.arm.specs.Lowest.{Theorem};
 
 use arm_steps::{ArmMoved, ArmStep};
 use device::model::DeviceModel;
@@ -49,13 +50,14 @@ impl ArmSequencer {
 
     // ---- the calls
 
-    // Arm a Mevo.
+    /// Takes a Mevo without asking: use `new_for(result.model)` with the model that the DSP's result names.
     pub fn new() -> Answer<ArmSequencer>
         ensures { result ≡ begun DeviceModel.Mevo }
     {
         ArmSequencer::new_for(DeviceModel::Mevo)
     }
 
+    /// An arm of this model.
     pub fn new_for(model: DeviceModel) -> Answer<ArmSequencer>
         ensures { result ≡ begun model }
     {
@@ -96,3 +98,8 @@ impl ArmSequencer {
         self.retries
     }
 }
+
+/// Of the numbers that apply to a feed the lowest is given, and none where none applies.
+pub fn lowest_number()
+    ensures { Theorem }
+{}

@@ -1,7 +1,8 @@
 -- THE THEOREM of the arm, over every list of feeds: how many nacks were counted, and when it is done. Arm goes back, so it has no table;
 -- both are said of the list. Definitions only; the proof is proofs/Whole.antt.
 -- Assumes nothing.
-use Rattle.std.specs.Prelude.{ℕ, suc, ◌≡◌, ◌↔◌, Bool, true, false, not, cond, ◌&&◌, ◌||◌, List, [], ◌∷◌, ◌++◌, ltb}
+use Rattle.std.specs.Prelude.{ℕ, suc, ◌≡◌, ◌↔◌, Bool, true, false, not, cond, ◌&&◌, ◌||◌, List, [], ◌∷◌, ◌++◌, map, ltb}
+use Rattle.matching.specs.Matching.{Table, Matching}
 use Rattle.matching.specs.Promise.{after_all}
 use Rattle.device.specs.declared.model.DeviceModel.{DeviceModel}
 use Rattle.device.specs.Model.{has_camera}
@@ -18,7 +19,7 @@ abbrev pub run : List Envelope → List Envelope
 run [] = []
 run (e ∷ cs) = cond (none (bytes_refusals e.text e.payload)) (e ∷ run cs) (run cs)
 
--- does the list have, in order, an envelope that passes each of these tests? (exactly when they can be matched: proofs/Matched.antt)
+-- does the list have, in order, an envelope that passes each of these tests? (exactly when they can be matched: InOrder, below)
 abbrev pub in_order : List (Envelope → Bool) → List Envelope → Bool
 in_order [] r = true
 in_order (t ∷ ts) [] = false
@@ -65,3 +66,18 @@ module _ (m : DeviceModel) (cs : List Envelope) where
 -- for every model given at new, and every list of feeds
 abbrev pub Theorem : Type 0
 Theorem = (m : DeviceModel) (cs : List Envelope) → Right m cs
+
+-- ---- "in order" is no second notion
+
+-- the tests as a table, and events without a clock
+abbrev pub table_of : List (Envelope → Bool) → Table Envelope
+table_of ts = map (λ t n e. t e) ts
+
+abbrev pub at : Envelope → ℕ
+at e = 0
+
+-- a list has envelopes that pass these tests in order exactly when the tests can be matched (d stands past its end: nothing here looks there)
+abbrev pub InOrder : Type 0
+InOrder =
+    (d : Envelope) (ts : List (Envelope → Bool)) (r : List Envelope)
+    → (in_order ts r ≡ true) ↔ ((ps : List ℕ) × Matching at d (table_of ts) r ps)

@@ -1,7 +1,7 @@
--- What an arm does with a feed, step by step (01: "Disarm and arm"): which feeds lead on, what is sent, which step comes next, and whether a
+-- What an arm does with a feed, step by step (docs/SCOPE.md, "Arm"): which feeds lead on, what is sent, which step comes next, and whether a
 -- nack is counted. Definitions only.
 -- Assumes nothing.
-use Rattle.std.specs.Prelude.{ℕ, Bool, true, false, not, cond, ◌&&◌, ◌||◌, List, [], ◌∷◌, Some, None}
+use Rattle.std.specs.Prelude.{ℕ, Bool, true, false, not, cond, ◌&&◌, ◌||◌, List, Some, None, codes}
 use Rattle.protocol.specs.declared.BusAddr.{BusAddr}
 use Rattle.protocol.specs.declared.Action.{Action}
 use Rattle.protocol.specs.Kinds as kinds
@@ -30,13 +30,11 @@ ack = kind 0x30 kinds.config_ack
 abbrev pub pi_status : Envelope → Bool
 pi_status = of_kind kinds.pi_status
 
--- "ARMED"
 abbrev pub armed_bytes : List ℕ
-armed_bytes = 0x41 ∷ 0x52 ∷ 0x4D ∷ 0x45 ∷ 0x44 ∷ []
+armed_bytes = codes "ARMED"
 
--- "CANCELLED"
 abbrev pub cancelled_bytes : List ℕ
-cancelled_bytes = 0x43 ∷ 0x41 ∷ 0x4E ∷ 0x43 ∷ 0x45 ∷ 0x4C ∷ 0x4C ∷ 0x45 ∷ 0x44 ∷ []
+cancelled_bytes = codes "CANCELLED"
 
 -- a text that contains the first and not the second
 abbrev pub is_armed : List ℕ → Bool

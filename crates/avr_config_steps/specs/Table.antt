@@ -1,4 +1,4 @@
--- THE TABLE of a settings run (01: "Settings run"), made from its settings: the steps in order, what is sent when each begins, and what
+-- THE TABLE of a settings run (docs/SCOPE.md, "Settings run"), made from its settings: the steps in order, what is sent when each begins, and what
 -- ticks it. Definitions only.
 -- Assumes nothing.
 use Rattle.std.specs.Prelude.{ℕ, zero, suc, ◌+◌, false, cond, List, [], ◌∷◌, ◌++◌, map, ltb, get_or, Option, Some, None, is_some, option_map}

@@ -1,4 +1,4 @@
--- THE TABLE of an AVR start-up (01: "AVR result"): its entries in order, each with who ticks it, what is sent then on a model, and what is
+-- THE TABLE of an AVR start-up (docs/SCOPE.md, "AVR start-up"): its entries in order, each with who ticks it, what is sent then on a model, and what is
 -- stored; then the steps of each model. Definitions only.
 -- Assumes nothing.
 use Rattle.std.specs.Prelude.{ℕ, cond, List, [], ◌∷◌, map, Option, Some, None}

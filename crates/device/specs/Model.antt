@@ -1,15 +1,15 @@
--- The model that a device info names, and what a model has (01: "Model and single sends", and the tables of DSP and AVR). Definitions only.
+-- The model that a device info names, and what a model has (docs/SCOPE.md, "Model and single sends", and the tables of DSP and AVR). Definitions only.
 -- Assumes nothing.
-use Rattle.std.specs.Prelude.{Bool, true, false, cond, List, [], ◌∷◌, ℕ, Option, Some, None}
+use Rattle.std.specs.Prelude.{Bool, true, false, cond, List, ℕ, Option, Some, None, codes}
 use Rattle.device.specs.Search.{contains}
 use Rattle.protocol.specs.declared.DevInfoResp.{DevInfoResp}
 use Rattle.protocol.specs.Stored.{content}
 use Rattle.device.specs.declared.model.DeviceModel.{DeviceModel}
 use Rattle.device.specs.declared.model.DeviceModel.TheVariants.{Mevo, Xi}
 
--- the five bytes "FS Xi"
+-- these five bytes
 abbrev pub xi_tag : List ℕ
-xi_tag = 0x46 ∷ 0x53 ∷ 0x20 ∷ 0x58 ∷ 0x69 ∷ []
+xi_tag = codes "FS Xi"
 
 -- a Xi has the tag somewhere in its payload; every other unit is a Mevo
 abbrev pub model_of : List ℕ → DeviceModel

@@ -1,4 +1,4 @@
--- The sends that belong to no sequence (01: "Model and single sends"). Definitions only.
+-- The sends that belong to no sequence (docs/SCOPE.md, "Model and single sends"). Definitions only.
 -- Assumes nothing.
 use Rattle.std.specs.Prelude.{Bool, true, false, cond, ◌&&◌, ◌||◌, List, [], ◌∷◌, ℕ, eqb, Option, Some, None}
 use Rattle.protocol.specs.Addr.{byte_of}

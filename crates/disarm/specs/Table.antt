@@ -1,7 +1,7 @@
--- THE TABLE of a disarm (01: "Disarm and arm"): its entries in order, each with who ticks it; then the steps at which they are awaited.
+-- THE TABLE of a disarm (docs/SCOPE.md, "Disarm"): its entries in order, each with who ticks it; then the steps at which they are awaited.
 -- Nothing is sent or stored on the way. Definitions only.
 -- Assumes nothing.
-use Rattle.std.specs.Prelude.{ℕ, Bool, ◌&&◌, List, [], ◌∷◌, map, None}
+use Rattle.std.specs.Prelude.{ℕ, Bool, ◌&&◌, List, [], ◌∷◌, map, None, codes}
 use Rattle.protocol.specs.Kinds as kinds
 use Rattle.device.specs.Search.{contains}
 use Rattle.matching.specs.Matching.{Table}
@@ -24,16 +24,16 @@ entry1 = entry (kind 0x30 kinds.config_ack)
 abbrev pub sign : List ℕ → Envelope → Bool
 sign w = either (of_kind kinds.mode_ack) (λ e. of_kind kinds.text e && contains w e.text)
 
--- 2. "ARMED CANCELLED"
+-- 2.
 abbrev pub armed_cancelled : List ℕ
-armed_cancelled = 0x41 ∷ 0x52 ∷ 0x4D ∷ 0x45 ∷ 0x44 ∷ 0x20 ∷ 0x43 ∷ 0x41 ∷ 0x4E ∷ 0x43 ∷ 0x45 ∷ 0x4C ∷ 0x4C ∷ 0x45 ∷ 0x44 ∷ []
+armed_cancelled = codes "ARMED CANCELLED"
 
 abbrev pub entry2 : DisarmRow
 entry2 = entry (sign armed_cancelled)
 
--- 3. "System State"
+-- 3.
 abbrev pub system_state : List ℕ
-system_state = 0x53 ∷ 0x79 ∷ 0x73 ∷ 0x74 ∷ 0x65 ∷ 0x6D ∷ 0x20 ∷ 0x53 ∷ 0x74 ∷ 0x61 ∷ 0x74 ∷ 0x65 ∷ []
+system_state = codes "System State"
 
 abbrev pub entry3 : DisarmRow
 entry3 = entry (sign system_state)

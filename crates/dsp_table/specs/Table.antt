@@ -1,4 +1,4 @@
--- THE TABLE of a DSP start-up (01: "DSP result"): its entries in order, each with who ticks it, what is sent then on a model, and what is
+-- THE TABLE of a DSP start-up (docs/SCOPE.md, "DSP start-up"): its entries in order, each with who ticks it, what is sent then on a model, and what is
 -- stored; then the steps at which they are awaited. Definitions only.
 -- Assumes nothing.
 use Rattle.std.specs.Prelude.{ℕ, ◌+◌, false, cond, List, [], ◌∷◌, map, Option, Some, None}

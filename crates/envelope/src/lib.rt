@@ -1,4 +1,4 @@
-// A decoded envelope that refers to the lent bytes (src/frame.rs's Envelope without `raw`), and each sequence's feed with one. A function here
+// A decoded envelope that refers to the lent bytes (src/conn.rs's Envelope without `raw`), and each sequence's feed with one. A function here
 // takes it apart and calls the sequence's own feed. Each is proved from that feed's contract, without a proof file. One for each sequence: a
 // generic one would call through a trait, whose six impls would be these bodies again.
 #![tactic(auto)]

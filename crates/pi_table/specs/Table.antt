@@ -1,4 +1,4 @@
--- THE TABLE of a Pi start-up (01: "Pi result"): its entries in order, each with who ticks it, what is sent then, and what is stored; then
+-- THE TABLE of a Pi start-up (docs/SCOPE.md, "Pi start-up"): its entries in order, each with who ticks it, what is sent then, and what is stored; then
 -- the steps at which they are awaited. Definitions only.
 -- Assumes nothing.
 use Rattle.std.specs.Prelude.{ℕ, ◌+◌, true, false, cond, List, [], ◌∷◌, map, ltb, get_or, Option, Some, None}

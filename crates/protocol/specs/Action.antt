@@ -1,4 +1,4 @@
--- A send (01: "What must change shape"). Definitions only.
+-- A send (docs/SCOPE.md, "Records"). Definitions only.
 -- Assumes nothing.
 use Rattle.std.specs.Prelude.{replicate}
 use Rattle.protocol.specs.declared.BusAddr.{BusAddr}

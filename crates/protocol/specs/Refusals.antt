@@ -1,4 +1,4 @@
--- The numbers of the refusals (01: "When a call is declined"). Definitions only.
+-- The numbers of the refusals (docs/SCOPE.md, "Refusals"). Definitions only.
 -- Assumes nothing.
 use Rattle.std.specs.Prelude.{ℕ, Bool, cond, List, [], ◌∷◌, eqb, Result, Ok, Err}
 use Rattle.protocol.specs.declared.Refusal.{Refusal}
@@ -33,7 +33,7 @@ among (r ∷ rs) n = cond (eqb (number r) n) (Err r) (among rs n)
 abbrev pub outcome : ℕ → Result (Unit {0}) Refusal
 outcome n = among refusals n
 
--- a number of 01's list, and whether it applies to a call
+-- a number of the list of refusals, and whether it applies to a call
 pub record Applies : Type 0 where
   pub number : ℕ
   pub holds : Bool

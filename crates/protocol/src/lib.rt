@@ -6,7 +6,7 @@ ghost use Rattle.protocol.specs.Action.{send_to};
 
 mod absent;
 mod addr;
-mod number;
+pub mod number;
 mod status;
 mod store;
 

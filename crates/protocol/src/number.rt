@@ -1,6 +1,7 @@
-// The number of a refusal.
+// The number of a refusal, and which is given.
 ghost use Rattle.std.specs.Prelude.{◌≡◌};
 ghost use Rattle.protocol.specs.Refusals.{number};
+ghost use Rattle.protocol.specs.Lowest.{Theorem};
 
 use crate::Refusal;
 
@@ -11,3 +12,8 @@ impl Refusal {
         self as u8
     }
 }
+
+/// The number that is given of a list of refusals is the lowest that applies, and no two refusals share a number.
+pub fn lowest_number()
+    ensures { Theorem }
+{}

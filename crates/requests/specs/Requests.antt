@@ -33,6 +33,6 @@ time_sync wall = record {
   tail = 0x00 ∷ 0x01 ∷ [];
 }
 
--- arm true arms the unit, arm false opens or commits a configuration (01: a commit)
+-- arm true arms the unit, arm false opens or commits a configuration: a commit
 abbrev pub avr_config_cmd : Bool → Action
 avr_config_cmd arm = send_to BusAddr.Avr (Command.AvrConfigCmd (record { arm = arm }))

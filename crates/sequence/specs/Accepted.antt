@@ -1,4 +1,4 @@
--- Which feeds and checks are refused (01: "When a call is declined"), as lists of numbers with their tests. Definitions only.
+-- Which feeds and checks are refused (docs/SCOPE.md, "Refusals"), as lists of numbers with their tests. Definitions only.
 -- Assumes nothing.
 use Rattle.std.specs.Prelude.{ℕ, Bool, true, not, ◌&&◌, List, [], ◌∷◌, ◌++◌, ltb, length, Result}
 use Rattle.protocol.specs.declared.Refusal.{Refusal}

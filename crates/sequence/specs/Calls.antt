@@ -1,4 +1,4 @@
--- The calls of a sequence, and the events (01: places) of its run that they are. Definitions only.
+-- The calls of a sequence, and the events (the scope's places) of its run that they are. Definitions only.
 -- Assumes nothing.
 use Rattle.std.specs.Prelude.{ℕ, cond, List, [], ◌∷◌}
 use Rattle.sequence.specs.Accepted.{bytes_refusals, feed_refusals, check_refusals, none}

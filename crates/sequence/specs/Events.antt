@@ -1,4 +1,4 @@
--- Envelopes, what a table asks of one, and the events (01: places) of a run. Definitions only.
+-- Envelopes, what a table asks of one, and the events (the scope's places) of a run. Definitions only.
 -- Assumes nothing.
 use Rattle.std.specs.Prelude.{ℕ, ◌+◌, Bool, false, ◌&&◌, ◌||◌, List, [], leb, eqb, ℤ}
 use Rattle.protocol.specs.declared.BusAddr.{BusAddr}

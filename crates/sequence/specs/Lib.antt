@@ -3,3 +3,4 @@ pub mod Accepted
 pub mod Calls
 pub mod Rows
 pub mod Replies
+pub mod Lowest

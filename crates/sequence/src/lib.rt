@@ -4,6 +4,7 @@
 ghost use Rattle.std.specs.Prelude.{◌≡◌, Ok};
 ghost use Rattle.protocol.specs.Refusals.{outcome, lowest};
 ghost use Rattle.sequence.specs.Accepted.{bytes_refusals, feed_refusals, check_refusals};
+ghost use Rattle.sequence.specs.Lowest.{Theorem};
 ghost use Rattle.sequence.specs.Rows.{deadline_at, idle, or_after, reached, refused};
 
 use protocol::{Action, Refusal};
@@ -122,3 +123,8 @@ pub fn accept_check(last: u64, now: u64) -> Result<(), Refusal>
     }
     Ok(())
 }
+
+/// Of the numbers that apply to a feed, a check or an asking the lowest is given, and none where none applies.
+pub fn lowest_number()
+    ensures { Theorem }
+{}

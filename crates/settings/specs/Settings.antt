@@ -1,4 +1,4 @@
--- Settings (01: "Settings run"): what is absent in them, the mode alone, those of a Mevo, and what a run stores of them. Definitions only.
+-- Settings (docs/SCOPE.md, "Settings run"): what is absent in them, the mode alone, those of a Mevo, and what a run stores of them. Definitions only.
 -- Assumes nothing.
 use Rattle.std.specs.Prelude.{ℕ, ◌-◌, min, Some, None, List, [], ◌∷◌, ◌++◌, ℤ, take, replicate}
 use Rattle.protocol.specs.declared.ParamData.{ParamData}
