@@ -13,7 +13,7 @@ impl Refusal {
     }
 }
 
-/// The number that is given of a list of refusals is the lowest that applies, and no two refusals share a number.
+/// Of a list of refusals whose numbers rise the number given is the lowest that applies; and no two refusals share a number.
 pub fn lowest_number()
     ensures { Theorem }
 {}
