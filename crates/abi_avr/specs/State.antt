@@ -15,7 +15,7 @@ use Rattle.avr_table.specs.declared.AvrStep.{AvrStep}
 use Rattle.avr_table.specs.declared.AvrStep.TheVariants as Avr
 use Rattle.avr.specs.declared.AvrSequencer.{AvrSequencer}
 use Rattle.abi_values.specs.declared.UnknownNumber.{UnknownNumber}
-use Rattle.abi_values.specs.Numbers.{unknown, and_then, model_in, model_out}
+use Rattle.abi_values.specs.Numbers.{unknown, and_then}
 use Rattle.abi_values.specs.Options.{instant_in, instant_out, dev_info_in, dev_info_out, config_in, config_out}
 use Rattle.abi_avr.specs.declared.COptionAvrStatus.{COptionAvrStatus}
 use Rattle.abi_avr.specs.declared.COptionStored.{COptionStored}
@@ -99,22 +99,21 @@ avr_step_out Avr.Done = 12
 abbrev pub avr_in : CAvr → Result AvrSequencer UnknownNumber
 avr_in c =
     and_then (avr_step_in c.step) (λ step.
-    and_then (model_in c.model) (λ model.
     Ok (record {
       state = record {
         step = step;
-        model = model;
+        model = c.model;
         replies = replies_in c.replies;
         cal_deadline = instant_in c.cal_deadline;
         repoll_at = instant_in c.repoll_at;
       };
       last = c.last;
-    })))
+    }))
 
 abbrev pub avr_out : AvrSequencer → CAvr
 avr_out s = record {
   step = avr_step_out s.state.step;
-  model = model_out s.state.model;
+  model = s.state.model;
   replies = replies_out s.state.replies;
   cal_deadline = instant_out s.state.cal_deadline;
   repoll_at = instant_out s.state.repoll_at;

@@ -4,11 +4,12 @@
 ghost use Rattle.std.specs.Prelude.{◌≡◌};
 ghost use Rattle.abi_avr.specs.State.{stored_out, replies_in, replies_out, avr_step_in, avr_step_out, avr_in, avr_out};
 
+use abi_values::UnknownNumber;
 use abi_values::options::{COptionConfigResp, COptionDevInfoResp, COptionInstant};
-use abi_values::{UnknownNumber, model_in, model_out};
 use avr::AvrSequencer;
 use avr_steps::AvrState;
 use avr_table::{AvrReplies, AvrStep};
+use device::model::DeviceModel;
 use protocol::{AvrConfigResp, AvrStatus, CalDataResp, CalParamResp, Stored};
 
 // C takes no `Option`.
@@ -42,7 +43,7 @@ pub struct CAvrReplies {
 #[derive(Clone, Copy)]
 pub struct CAvr {
     pub step: u8,
-    pub model: u8,
+    pub model: DeviceModel,
     pub replies: CAvrReplies,
     pub cal_deadline: COptionInstant,
     pub repoll_at: COptionInstant,
@@ -138,7 +139,7 @@ impl TryFrom<CAvr> for AvrSequencer {
     fn try_from(c: CAvr) -> Result<AvrSequencer, UnknownNumber> {
         let state = AvrState {
             step: step_in(c.step)?,
-            model: model_in(c.model)?,
+            model: c.model,
             replies: c.replies.into(),
             cal_deadline: c.cal_deadline.into(),
             repoll_at: c.repoll_at.into(),
@@ -156,7 +157,7 @@ impl From<AvrSequencer> for CAvr {
     fn from(seq: AvrSequencer) -> CAvr {
         CAvr {
             step: step_out(seq.state.step),
-            model: model_out(seq.state.model),
+            model: seq.state.model,
             replies: seq.state.replies.into(),
             cal_deadline: seq.state.cal_deadline.into(),
             repoll_at: seq.state.repoll_at.into(),

@@ -22,13 +22,12 @@ use Rattle.protocol.specs.declared.Message.TheVariants as Msg
 use Rattle.protocol.specs.declared.Command.{Command}
 use Rattle.protocol.specs.declared.Command.TheVariants as Cmd
 use Rattle.protocol.specs.Addr.{byte_of}
-use Rattle.device.specs.declared.model.DeviceModel.{DeviceModel}
 use Rattle.settings.specs.declared.AvrSettings.{AvrSettings}
 use Rattle.dsp_table.specs.declared.DspStatusReply.{DspStatusReply}
 use Rattle.avr_table.specs.declared.AvrReplies.{AvrReplies}
 use Rattle.pi_table.specs.declared.PiReplies.{PiReplies}
 use Rattle.abi_values.specs.Options.{instant_in, instant_out, dev_info_in, dev_info_out, config_in, config_out}
-use Rattle.abi_values.specs.Numbers.{addr_in, model_in, model_out}
+use Rattle.abi_values.specs.Numbers.{addr_in}
 use Rattle.abi_values.specs.Params.{param_as, param_in, param_out}
 use Rattle.abi_messages.specs.Messages.{dsp_status_in, dsp_status_out, message_in}
 use Rattle.abi.specs.Actions.{command_out, action_out}
@@ -60,10 +59,6 @@ addr_back BusAddr.App = refl
 addr_back BusAddr.Pi = refl
 addr_back BusAddr.Avr = refl
 addr_back BusAddr.Dsp = refl
-
-model_back : (m : DeviceModel) → model_in (model_out m) ≡ Ok m
-model_back DeviceModel.Mevo = refl
-model_back DeviceModel.Xi = refl
 
 status_back : (s : DspStatus) → dsp_status_in (dsp_status_out s) ≡ Ok s
 status_back (DspStatus.V80 s) = refl
@@ -255,7 +250,6 @@ action_back None = refl
 pub back : Back
 back = record {
   addr = addr_back;
-  model = model_back;
   dsp_status = status_back;
   param = param_back;
   settings = settings_back;
@@ -263,7 +257,7 @@ back = record {
   action = action_back;
   dsp =
       λ s. rw (dsp_step s.state.step, dsp_reply_back s.state.replies.status, nack_back s.state.replies.refused, hw_info_back s.state.replies.hw_info, dev_info_back s.state.replies.dev_info, config_back s.state.replies.config, instant_back s.state.deadline);
-  avr = λ s. rw (avr_step s.state.step, model_back s.state.model, avr_replies_back s.state.replies, instant_back s.state.cal_deadline, instant_back s.state.repoll_at);
+  avr = λ s. rw (avr_step s.state.step, avr_replies_back s.state.replies, instant_back s.state.cal_deadline, instant_back s.state.repoll_at);
   pi = λ s. rw (pi_step s.step, pi_replies_back s.replies);
   avr_config = λ s. rw (avr_config_step s.step, settings_back s.settings);
   arm = λ s. rw (arm_step s.step);

@@ -20,7 +20,6 @@ use Rattle.protocol.specs.declared.Command.TheVariants as Cmd
 use Rattle.protocol.specs.declared.Action.{Action}
 use Rattle.protocol.specs.Addr.{byte_of}
 use Rattle.protocol.specs.Carried.{no_ack, no_avr_status, no_cam_config, no_dsp_status, no_query_resp}
-use Rattle.device.specs.declared.model.DeviceModel.{DeviceModel}
 use Rattle.settings.specs.declared.AvrSettings.{AvrSettings}
 use Rattle.settings.specs.Settings.{no_param}
 use Rattle.dsp.specs.declared.DspSequencer.{DspSequencer}
@@ -29,7 +28,7 @@ use Rattle.pi.specs.declared.PiSequencer.{PiSequencer}
 use Rattle.avr_config.specs.declared.AvrConfigSequencer.{AvrConfigSequencer}
 use Rattle.arm.specs.declared.ArmSequencer.{ArmSequencer}
 use Rattle.disarm.specs.declared.DisarmSequencer.{DisarmSequencer}
-use Rattle.abi_values.specs.Numbers.{addr_in, model_in, model_out}
+use Rattle.abi_values.specs.Numbers.{addr_in}
 use Rattle.abi_values.specs.Params.{param_in, param_out}
 use Rattle.abi_messages.specs.declared.CMessage.{CMessage}
 use Rattle.abi_messages.specs.Messages.{dsp_status_in, dsp_status_out, message_in}
@@ -114,7 +113,6 @@ action_in a =
 
 pub record Back : Type 0 where
   pub addr : (a : BusAddr) → addr_in (byte_of a) ≡ Ok a
-  pub model : (m : DeviceModel) → model_in (model_out m) ≡ Ok m
   pub dsp_status : (s : DspStatus) → dsp_status_in (dsp_status_out s) ≡ Ok s
   pub param : (p : ParamValue) → param_in (param_out p) ≡ Ok p
   pub settings : (s : AvrSettings) → settings_in (settings_out s) ≡ Ok s

@@ -1,11 +1,9 @@
--- Devices, models and outcomes by number, and back. A number that no case has is not known. Definitions only.
+-- Devices and outcomes by number, and back. A number that no case has is not known. Definitions only.
 -- Assumes nothing.
 use Rattle.std.specs.Prelude.{ℕ, cond, eqb, Result, Ok, Err}
 use Rattle.protocol.specs.declared.BusAddr.{BusAddr}
 use Rattle.protocol.specs.declared.Refusal.{Refusal}
 use Rattle.protocol.specs.Refusals.{number}
-use Rattle.device.specs.declared.model.DeviceModel.{DeviceModel}
-use Rattle.device.specs.declared.model.DeviceModel.TheVariants.{Mevo, Xi}
 use Rattle.abi_values.specs.declared.UnknownNumber.{UnknownNumber}
 
 abbrev pub unknown : {A : Type 0} → Result A UnknownNumber
@@ -24,13 +22,6 @@ addr_in b =
     (cond (eqb b 0x30) (Ok BusAddr.Avr)
     (cond (eqb b 0x40) (Ok BusAddr.Dsp)
     unknown)))
-
-abbrev pub model_in : ℕ → Result DeviceModel UnknownNumber
-model_in n = cond (eqb n 0) (Ok Mevo) (cond (eqb n 1) (Ok Xi) unknown)
-
-abbrev pub model_out : DeviceModel → ℕ
-model_out Mevo = 0
-model_out Xi = 1
 
 -- 0, or the refusal's number
 abbrev pub refusal_out : {A : Type 0} → Result A Refusal → ℕ

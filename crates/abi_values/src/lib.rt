@@ -1,13 +1,12 @@
 // What crosses to a host with a number where the sequences have an enum: a device by its byte on the bus, a refusal by its number, any
 // other case by its place in the enum of the Rust. A number that no case has is told as not known, and never taken for another. Here
-// devices, models, refusals and parameters, and in `options` the records that may be absent.
+// devices, refusals and parameters, and in `options` the records that may be absent.
 #![tactic(auto)]
 
 ghost use Rattle.std.specs.Prelude.{◌≡◌};
-ghost use Rattle.abi_values.specs.Numbers.{addr_in, model_in, model_out, refusal_out};
+ghost use Rattle.abi_values.specs.Numbers.{addr_in, refusal_out};
 ghost use Rattle.abi_values.specs.Params.{param_in, param_out};
 
-use device::model::DeviceModel;
 use protocol::{BusAddr, ParamData, ParamValue, Refusal};
 
 pub mod options;
@@ -38,23 +37,6 @@ pub fn addr_in(byte: u8) -> Result<BusAddr, UnknownNumber>
         0x40 => Ok(BusAddr::Dsp),
         _ => Err(UnknownNumber),
     }
-}
-
-// The models by number, since C takes no enum. Functions, as `addr_in` is.
-pub fn model_in(number: u8) -> Result<DeviceModel, UnknownNumber>
-    ensures { result ≡ model_in number }
-{
-    match number {
-        0 => Ok(DeviceModel::Mevo),
-        1 => Ok(DeviceModel::Xi),
-        _ => Err(UnknownNumber),
-    }
-}
-
-pub fn model_out(model: DeviceModel) -> u8
-    ensures { result ≡ model_out model }
-{
-    model as u8
 }
 
 // 0 for an accepted call, else the refusal's number, since C takes no `Result`. A function, as `addr_in` is.

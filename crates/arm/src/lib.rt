@@ -4,7 +4,7 @@
 #![tactic(auto)]
 
 ghost use Rattle.std.specs.Prelude.{◌≡◌, []};
-ghost use Rattle.device.specs.declared.model.DeviceModel.{DeviceModel};
+ghost use Rattle.device.specs.Model.{mevo};
 ghost use Rattle.arm.specs.Answers.{begun, counted, fed_to};
 ghost use Rattle.arm.specs.Lowest.{Theorem};
 
@@ -52,9 +52,9 @@ impl ArmSequencer {
 
     /// Takes a Mevo without asking: use `new_for(result.model)` with the model that the DSP's result names.
     pub fn new() -> Answer<ArmSequencer>
-        ensures { result ≡ begun DeviceModel.Mevo }
+        ensures { result ≡ begun mevo }
     {
-        ArmSequencer::new_for(DeviceModel::Mevo)
+        ArmSequencer::new_for(DeviceModel::MEVO)
     }
 
     /// An arm of this model.

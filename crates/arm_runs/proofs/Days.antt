@@ -1,5 +1,5 @@
--- The theorem at work: an arm of a Xi that is refused twice, and arms of a Mevo, in which every part of it is read. A weaker theorem would not
--- give these.
+-- The theorem at work: an arm of a Xi that is refused twice, and arms of the rig and of a Mevo, in which every part of it is read. A weaker
+-- theorem would not give these.
 -- Assumes nothing.
 use Prim.Native.Nat.{ℕ}
 use mathlib.Core.Path.{◌≡◌, refl, sym}
@@ -9,7 +9,7 @@ use Rattle.protocol.specs.declared.BusAddr.{BusAddr}
 use Rattle.protocol.specs.declared.Message.{Message}
 use Rattle.protocol.specs.declared.DspStatus.{DspStatus}
 use Rattle.protocol.specs.Carried.{no_avr_status}
-use Rattle.device.specs.declared.model.DeviceModel.{DeviceModel}
+use Rattle.device.specs.Model as models
 use Rattle.sequence.specs.Events.{Envelope, plain}
 use Rattle.arm_steps.specs.declared.ArmStep.{ArmStep}
 use Rattle.arm_steps.specs.Answers.{armed_bytes, cancelled_bytes}
@@ -41,37 +41,42 @@ xi =
     nack BusAddr.Avr ∷ dsp ∷ avr ∷ nack BusAddr.Dsp ∷ nack BusAddr.Avr ∷ ack ∷ text armed_bytes ∷ dsp ∷ avr ∷ nack BusAddr.Avr ∷ avr ∷ dsp ∷ avr ∷ ack
     ∷ nack BusAddr.Avr ∷ []
 
-pub xi_retries : (state DeviceModel.Xi xi).retries ≡ 2
-xi_retries = (right DeviceModel.Xi xi).retries
+pub xi_retries : (state models.xi xi).retries ≡ 2
+xi_retries = (right models.xi xi).retries
 
 -- "DISARMED" contains "ARMED"
 abbrev xi_armed : List Envelope
 xi_armed = xi ++ text (0x44 ∷ 0x49 ∷ 0x53 ∷ armed_bytes) ∷ []
 
-pub xi_done : (state DeviceModel.Xi xi_armed).step ≡ ArmStep.Done
-xi_done = (right DeviceModel.Xi xi_armed).done.1 refl
+pub xi_done : (state models.xi xi_armed).step ≡ ArmStep.Done
+xi_done = (right models.xi xi_armed).done.1 refl
 
 -- "ARMED CANCELLED"
 abbrev xi_cancelled : List Envelope
 xi_cancelled = xi ++ text (armed_bytes ++ 0x20 ∷ cancelled_bytes) ∷ []
 
-pub xi_waits : (state DeviceModel.Xi xi_cancelled).step ≡ ArmStep.Done → ⊥
-xi_waits d = true≢false (sym ((right DeviceModel.Xi xi_cancelled).done.0 d))
+pub xi_waits : (state models.xi xi_cancelled).step ≡ ArmStep.Done → ⊥
+xi_waits d = true≢false (sym ((right models.xi xi_cancelled).done.0 d))
+
+-- ---- the practice rig: the text alone is waited for
+
+pub rig_done : (state models.rig (dsp ∷ avr ∷ ack ∷ text armed_bytes ∷ [])).step ≡ ArmStep.Done
+rig_done = (right models.rig (dsp ∷ avr ∷ ack ∷ text armed_bytes ∷ [])).done.1 refl
 
 -- ---- a Mevo: the Pi's status too, in either order
 
 abbrev mevo : List Envelope
 mevo = pi ∷ dsp ∷ avr ∷ ack ∷ text armed_bytes ∷ []
 
-pub mevo_waits : (state DeviceModel.Mevo mevo).step ≡ ArmStep.Done → ⊥
-mevo_waits d = true≢false (sym ((right DeviceModel.Mevo mevo).done.0 d))
+pub mevo_waits : (state models.mevo mevo).step ≡ ArmStep.Done → ⊥
+mevo_waits d = true≢false (sym ((right models.mevo mevo).done.0 d))
 
-pub text_first : (state DeviceModel.Mevo (mevo ++ pi ∷ [])).step ≡ ArmStep.Done
-text_first = (right DeviceModel.Mevo (mevo ++ pi ∷ [])).done.1 refl
+pub text_first : (state models.mevo (mevo ++ pi ∷ [])).step ≡ ArmStep.Done
+text_first = (right models.mevo (mevo ++ pi ∷ [])).done.1 refl
 
-pub pi_first : (state DeviceModel.Mevo (dsp ∷ avr ∷ ack ∷ pi ∷ text armed_bytes ∷ [])).step ≡ ArmStep.Done
-pi_first = (right DeviceModel.Mevo (dsp ∷ avr ∷ ack ∷ pi ∷ text armed_bytes ∷ [])).done.1 refl
+pub pi_first : (state models.mevo (dsp ∷ avr ∷ ack ∷ pi ∷ text armed_bytes ∷ [])).step ≡ ArmStep.Done
+pi_first = (right models.mevo (dsp ∷ avr ∷ ack ∷ pi ∷ text armed_bytes ∷ [])).done.1 refl
 
 -- and back: what is done has been seen in the list
-pub seen : armed_since DeviceModel.Mevo (nacks (run (mevo ++ pi ∷ []))).since ≡ true
-seen = (right DeviceModel.Mevo (mevo ++ pi ∷ [])).done.0 text_first
+pub seen : armed_since models.mevo (nacks (run (mevo ++ pi ∷ []))).since ≡ true
+seen = (right models.mevo (mevo ++ pi ∷ [])).done.0 text_first

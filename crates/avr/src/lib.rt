@@ -4,7 +4,7 @@
 #![tactic(auto)]
 
 ghost use Rattle.std.specs.Prelude.{◌≡◌};
-ghost use Rattle.device.specs.declared.model.DeviceModel.{DeviceModel};
+ghost use Rattle.device.specs.Model.{mevo};
 ghost use Rattle.avr.specs.Answers.{begun, fed_to, polled, accepted, sync_of, finished};
 
 use avr_steps::AvrState;
@@ -31,7 +31,7 @@ pub struct AvrSync {
     pub config: ConfigResp,
     pub factory_cal: Option<CalDataResp>,
     pub if_cal: Option<CalParamResp>,
-    // none on a Xi, which is not asked
+    // none without the factory calibration, which is then not asked for
     pub avr_config: Option<AvrConfigResp>,
 }
 
@@ -66,9 +66,9 @@ fn accepted(moved: Moved<AvrState>, now: u64) -> Answer<AvrSequencer>
 impl AvrSequencer {
     /// Takes a Mevo without asking: use `new_for(result.model)` with the model that the DSP's result names.
     pub fn new() -> Answer<AvrSequencer>
-        ensures { result ≡ begun DeviceModel.Mevo }
+        ensures { result ≡ begun mevo }
     {
-        AvrSequencer::new_for(DeviceModel::Mevo)
+        AvrSequencer::new_for(DeviceModel::MEVO)
     }
 
     /// A start-up of this model.

@@ -1,11 +1,12 @@
--- The theorem at work: a Mevo's list of calls and a Xi's, whatever the statuses in them are, in which every part of it is read. A weaker
--- theorem would not give these.
+-- The theorem at work: lists of calls of a Mevo, the rig and a Xi, whatever the statuses in them are, in which every part of it is read. A
+-- weaker theorem would not give these.
 -- Assumes nothing.
 use Prim.Native.Nat.{ℕ}
 use mathlib.Core.Path.{◌≡◌, refl, sym, ◌∙◌, ap}
 use mathlib.Core.Bool.{false, true≢false}
 use mathlib.Core.List.{List, [], ◌∷◌, ◌++◌}
 use lib.IntN.{ℤ}
+use lib.ListN.{length}
 use Rattle.protocol.specs.declared.BusAddr.{BusAddr}
 use Rattle.protocol.specs.declared.Message.{Message}
 use Rattle.protocol.specs.declared.ParamData.{ParamData}
@@ -14,6 +15,7 @@ use Rattle.protocol.specs.declared.AvrStatus.{AvrStatus}
 use Rattle.std.specs.Prelude.{Some, None, Ok, Err}
 use Rattle.protocol.specs.Stored.{stored}
 use Rattle.device.specs.declared.model.DeviceModel.{DeviceModel}
+use Rattle.device.specs.Model as models
 use Rattle.matching.specs.Promise.{after_all, events, Matched, First}
 use Rattle.matching.proofs.Called.{run_rises}
 use Rattle.matching.proofs.Machine.{leftmost}
@@ -87,24 +89,24 @@ module _ (a b : AvrStatus) where
   abbrev mevo_day : List AvrCall
   mevo_day = mevo_whole ++ ask into_result ∷ from Message.CalParamResp [] [] (9 ∷ []) 2_000_000_014 ∷ []
 
-  pub mevo_places : places DeviceModel.Mevo mevo_day ≡ 0 ∷ 1 ∷ 2 ∷ 3 ∷ 5 ∷ 6 ∷ 7 ∷ 8 ∷ 10 ∷ 11 ∷ 12 ∷ 13 ∷ []
+  pub mevo_places : places models.mevo mevo_day ≡ 0 ∷ 1 ∷ 2 ∷ 3 ∷ 5 ∷ 6 ∷ 7 ∷ 8 ∷ 10 ∷ 11 ∷ 12 ∷ 13 ∷ []
   mevo_places = refl
 
-  pub mevo_ticked_off : Off DeviceModel.Mevo mevo_day
+  pub mevo_ticked_off : Off models.mevo mevo_day
   unfolding stored
-  mevo_ticked_off = (right DeviceModel.Mevo mevo_day).ends.done.0 refl
+  mevo_ticked_off = (right models.mevo mevo_day).ends.done.0 refl
 
-  mevo_whole_lem : Off DeviceModel.Mevo mevo_whole
-  mevo_whole_lem = (places DeviceModel.Mevo mevo_whole, leftmost_matching {r = run DeviceModel.Mevo mevo_whole} refl)
+  mevo_whole_lem : Off models.mevo mevo_whole
+  mevo_whole_lem = (places models.mevo mevo_whole, leftmost_matching {r = run models.mevo mevo_whole} refl)
 
-  pub mevo_done : (state DeviceModel.Mevo mevo_day).state.step ≡ AvrStep.Done
-  mevo_done = (right DeviceModel.Mevo mevo_day).ends.done.1 (places DeviceModel.Mevo mevo_day, leftmost_matching {r = run DeviceModel.Mevo mevo_day} refl)
+  pub mevo_done : (state models.mevo mevo_day).state.step ≡ AvrStep.Done
+  mevo_done = (right models.mevo mevo_day).ends.done.1 (places models.mevo mevo_day, leftmost_matching {r = run models.mevo mevo_day} refl)
 
-  pub mevo_asked_early : finished (state DeviceModel.Mevo mevo_early) ≡ Err Refusal.NotDone
+  pub mevo_asked_early : finished (state models.mevo mevo_early) ≡ Err Refusal.NotDone
   unfolding stored
-  mevo_asked_early = (right DeviceModel.Mevo mevo_day).asked.before mevo_early _ refl (not_yet DeviceModel.Mevo mevo_early refl)
+  mevo_asked_early = (right models.mevo mevo_day).asked.before mevo_early _ refl (not_yet models.mevo mevo_early refl)
 
-  pub mevo_result : finished (state DeviceModel.Mevo mevo_whole)
+  pub mevo_result : finished (state models.mevo mevo_whole)
       ≡ Ok (record {
         status = b;
         dev_info = record { text = stored (50 ∷ []); payload = stored (50 ∷ 0 ∷ []) };
@@ -114,8 +116,43 @@ module _ (a b : AvrStatus) where
         avr_config = Some (record { payload = stored (8 ∷ []) });
       })
   mevo_result =
-      (right DeviceModel.Mevo mevo_day).asked.from mevo_whole _ refl mevo_whole_lem (places DeviceModel.Mevo mevo_day)
-      (earliest DeviceModel.Mevo mevo_day mevo_ticked_off)
+      (right models.mevo mevo_day).asked.from mevo_whole _ refl mevo_whole_lem (places models.mevo mevo_day)
+      (earliest models.mevo mevo_day mevo_ticked_off)
+
+  -- ---- the practice rig: a Mevo's twelve entries, by the same calls
+
+  pub rig_entries : length (table models.rig) ≡ 12
+  rig_entries = refl
+
+  pub rig_places : places models.rig mevo_day ≡ 0 ∷ 1 ∷ 2 ∷ 3 ∷ 5 ∷ 6 ∷ 7 ∷ 8 ∷ 10 ∷ 11 ∷ 12 ∷ 13 ∷ []
+  rig_places = refl
+
+  pub rig_ticked_off : Off models.rig mevo_day
+  unfolding stored
+  rig_ticked_off = (right models.rig mevo_day).ends.done.0 refl
+
+  rig_whole_lem : Off models.rig mevo_whole
+  rig_whole_lem = (places models.rig mevo_whole, leftmost_matching {r = run models.rig mevo_whole} refl)
+
+  pub rig_done : (state models.rig mevo_day).state.step ≡ AvrStep.Done
+  rig_done = (right models.rig mevo_day).ends.done.1 (places models.rig mevo_day, leftmost_matching {r = run models.rig mevo_day} refl)
+
+  pub rig_asked_early : finished (state models.rig mevo_early) ≡ Err Refusal.NotDone
+  unfolding stored
+  rig_asked_early = (right models.rig mevo_day).asked.before mevo_early _ refl (not_yet models.rig mevo_early refl)
+
+  pub rig_result : finished (state models.rig mevo_whole)
+      ≡ Ok (record {
+        status = b;
+        dev_info = record { text = stored (50 ∷ []); payload = stored (50 ∷ 0 ∷ []) };
+        config = record { params = ℤ.pos 5 ∷ [] };
+        factory_cal = Some (record { payload = stored (7 ∷ []) });
+        if_cal = None;
+        avr_config = Some (record { payload = stored (8 ∷ []) });
+      })
+  rig_result =
+      (right models.rig mevo_day).asked.from mevo_whole _ refl rig_whole_lem (places models.rig mevo_day)
+      (earliest models.rig mevo_day rig_ticked_off)
 
   -- ---- a Xi: done with the eighth entry; a factory calibration is not looked at
 
@@ -128,24 +165,24 @@ module _ (a b : AvrStatus) where
   abbrev xi_day : List AvrCall
   xi_day = xi_whole ++ ask into_result ∷ from Message.AvrConfigResp [] [] (8 ∷ []) 12 ∷ []
 
-  pub xi_places : places DeviceModel.Xi xi_day ≡ 0 ∷ 1 ∷ 2 ∷ 3 ∷ 5 ∷ 6 ∷ 7 ∷ 9 ∷ []
+  pub xi_places : places models.xi xi_day ≡ 0 ∷ 1 ∷ 2 ∷ 3 ∷ 5 ∷ 6 ∷ 7 ∷ 9 ∷ []
   xi_places = refl
 
-  pub xi_ticked_off : Off DeviceModel.Xi xi_day
+  pub xi_ticked_off : Off models.xi xi_day
   unfolding stored
-  xi_ticked_off = (right DeviceModel.Xi xi_day).ends.done.0 refl
+  xi_ticked_off = (right models.xi xi_day).ends.done.0 refl
 
-  xi_whole_lem : Off DeviceModel.Xi xi_whole
-  xi_whole_lem = (places DeviceModel.Xi xi_whole, leftmost_matching {r = run DeviceModel.Xi xi_whole} refl)
+  xi_whole_lem : Off models.xi xi_whole
+  xi_whole_lem = (places models.xi xi_whole, leftmost_matching {r = run models.xi xi_whole} refl)
 
-  pub xi_done : (state DeviceModel.Xi xi_day).state.step ≡ AvrStep.Done
-  xi_done = (right DeviceModel.Xi xi_day).ends.done.1 (places DeviceModel.Xi xi_day, leftmost_matching {r = run DeviceModel.Xi xi_day} refl)
+  pub xi_done : (state models.xi xi_day).state.step ≡ AvrStep.Done
+  xi_done = (right models.xi xi_day).ends.done.1 (places models.xi xi_day, leftmost_matching {r = run models.xi xi_day} refl)
 
-  pub xi_asked_early : finished (state DeviceModel.Xi xi_early) ≡ Err Refusal.NotDone
+  pub xi_asked_early : finished (state models.xi xi_early) ≡ Err Refusal.NotDone
   unfolding stored
-  xi_asked_early = (right DeviceModel.Xi xi_day).asked.before xi_early _ refl (not_yet DeviceModel.Xi xi_early refl)
+  xi_asked_early = (right models.xi xi_day).asked.before xi_early _ refl (not_yet models.xi xi_early refl)
 
-  pub xi_result : finished (state DeviceModel.Xi xi_whole)
+  pub xi_result : finished (state models.xi xi_whole)
       ≡ Ok (record {
         status = b;
         dev_info = record { text = stored (50 ∷ []); payload = stored (50 ∷ 0 ∷ []) };
@@ -155,4 +192,4 @@ module _ (a b : AvrStatus) where
         avr_config = None;
       })
   xi_result =
-      (right DeviceModel.Xi xi_day).asked.from xi_whole _ refl xi_whole_lem (places DeviceModel.Xi xi_day) (earliest DeviceModel.Xi xi_day xi_ticked_off)
+      (right models.xi xi_day).asked.from xi_whole _ refl xi_whole_lem (places models.xi xi_day) (earliest models.xi xi_day xi_ticked_off)

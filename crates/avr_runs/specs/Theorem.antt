@@ -19,7 +19,7 @@ use Rattle.avr.specs.Answers.{begun, finished}
 use Rattle.avr.specs.Calls.{AvrCall, into_result, after, event}
 
 -- Each record is that of the event at its entry's place (`at k`: of the k-th entry of the model's table), absent where that stores none.
--- With a factory calibration (Mevo) there are 12 entries, without (Xi) 8.
+-- With a factory calibration there are 12 entries, without 8.
 abbrev pub result_of : Bool → (ℕ → Event Dated) → AvrSync
 result_of cal at = record {
   status = unwrap_or (status_in (at 2)) no_avr_status;

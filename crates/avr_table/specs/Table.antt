@@ -46,13 +46,13 @@ row m WaitDevInfo2 = dev_info_row (Some (param_read_req 0x0C))
 -- 5. and 6. a ParamValue, twice; then parameter 0x0D, then the configuration is asked for
 row m WaitParam0C = param_row (λ e. Some (param_read_req 0x0D))
 row m WaitParam0D = param_row (λ e. Some (send_to BusAddr.Avr Command.ConfigQuery))
--- 7. a ConfigResp; then the factory calibration is asked for, or on a Xi the other one
+-- 7. a ConfigResp; then the factory calibration is asked for, or where there is none the other one
 row m WaitConfig = entry kinds.config_resp forever (λ e. Some (cond (has_factory_cal m) cal_data_req (send_to BusAddr.Avr Command.CalParamReq))) 7
--- 8. not on a Xi: a CalDataResp, or a check 2 s after entry 7; then the other calibration is asked for
+-- 8. with the factory calibration: a CalDataResp, or a check 2 s after entry 7; then the other calibration is asked for
 row m WaitFactoryCal = entry kinds.cal_data_resp (nanos 2_000_000_000) (λ e. Some (send_to BusAddr.Avr Command.CalParamReq)) 8
--- 9. a CalParamResp, or a check 2 s after the entry before; then a Xi is done, and else the settings are asked for
+-- 9. a CalParamResp, or a check 2 s after the entry before; then the settings are asked for, or without a factory calibration it is done
 row m WaitIfCal = entry kinds.cal_param_resp (nanos 2_000_000_000) (λ e. cond (has_factory_cal m) (Some (send_to BusAddr.Avr Command.AvrConfigQuery)) None) 9
--- 10. to 12. not on a Xi: an AvrConfigResp; then parameter 0x64; a ParamValue; then the time; a TimeSync; then it is done
+-- 10. to 12. with the factory calibration: an AvrConfigResp; then parameter 0x64; a ParamValue; then the time; a TimeSync; then it is done
 row m WaitAvrConfig = entry kinds.avr_config_resp forever (λ e. Some (param_read_req 0x64)) 10
 row m WaitParam64 = param_row (λ e. Some (time_sync (wall_in e)))
 row m WaitTimeSync = entry kinds.time_sync forever (λ e. None) 12

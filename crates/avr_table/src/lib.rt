@@ -23,10 +23,10 @@ pub enum AvrStep {
     WaitParam0C,
     WaitParam0D,
     WaitConfig,
-    // not on a Xi
+    // with the factory calibration
     WaitFactoryCal,
     WaitIfCal,
-    // the next three not on a Xi
+    // the next three with the factory calibration
     WaitAvrConfig,
     WaitParam64,
     WaitTimeSync,

@@ -8,18 +8,17 @@ use Rattle.protocol.specs.declared.BusAddr.{BusAddr}
 use Rattle.protocol.specs.declared.Command.{Command}
 use Rattle.protocol.specs.declared.Action.{Action}
 use Rattle.requests.specs.Requests.{status_poll}
-use Rattle.device.specs.Model.{has_camera}
+use Rattle.device.specs.Model.{has_camera, is_xi}
 use Rattle.device.specs.declared.model.DeviceModel.{DeviceModel}
-use Rattle.device.specs.declared.model.DeviceModel.TheVariants.{Mevo, Xi}
 
 -- a flight result
 abbrev pub is_result : ℕ → Bool
 is_result id = eqb id 0xE8 || eqb id 0xD4
 
--- only a Xi's flight results are acknowledged, and only those from its Avr
+-- only the flight results of a unit with a Xi's three facts are acknowledged, and only those from its Avr
 abbrev pub result_ack : DeviceModel → BusAddr → ℕ → Option Action
-result_ack Mevo src id = None
-result_ack Xi src id = cond (eqb (byte_of src) 0x30 && is_result id) (Some (send_to BusAddr.Avr (Command.ConfigAck (ack_of id)))) None
+result_ack m src id =
+    cond (is_xi m && (eqb (byte_of src) 0x30 && is_result id)) (Some (send_to BusAddr.Avr (Command.ConfigAck (ack_of id)))) None
 
 -- the polls of a keepalive, in the order of sending; the Pi's only where there is a camera
 abbrev pub keepalive_for : DeviceModel → List (Option Action)

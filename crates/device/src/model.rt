@@ -1,28 +1,58 @@
 // The model of a unit, as its device info names it (src/protocol/handshake.rs).
 ghost use Rattle.std.specs.Prelude.{◌≡◌};
-ghost use Rattle.device.specs.Model.{model_of, model_in, has_camera, has_factory_cal, has_power_mode};
+ghost use Rattle.device.specs.Model.{model_of, model_in, has_camera, has_factory_cal, has_power_mode, is_xi};
 
 use crate::search;
 use protocol::DevInfoResp;
 
+/// What a unit has: three facts. Every sequence, the keepalive and the arm go by these and by no name; all eight combinations run.
+///
 /// Has no `Default`, which in seq.rs takes a Mevo without asking: use `new_for(result.model)` with the model that the DSP's result names.
+#[repr(C)]
 #[derive(Clone, Copy, PartialEq, Eq)]
-pub enum DeviceModel {
-    // Mevo+ or Mevo Gen2: radar and camera
-    Mevo,
-    // radar only
-    Xi,
+pub struct DeviceModel {
+    /// A camera, and so a Pi.
+    pub camera: bool,
+    /// The AVR's factory calibration and settings query.
+    pub factory_cal: bool,
+    /// The DSP's power-mode step.
+    pub power_mode: bool,
 }
 
 impl DeviceModel {
-    // The model that a device-info payload names.
+    /// Mevo+ or Mevo Gen2: radar and camera.
+    pub const MEVO: DeviceModel = DeviceModel {
+        camera: true,
+        factory_cal: true,
+        power_mode: false,
+    };
+
+    /// Radar only.
+    pub const XI: DeviceModel = DeviceModel {
+        camera: false,
+        factory_cal: false,
+        power_mode: true,
+    };
+
+    /// The practice rig of a classroom: it speaks like a Mevo that has no camera.
+    pub const RIG: DeviceModel = DeviceModel {
+        camera: false,
+        factory_cal: true,
+        power_mode: false,
+    };
+
+    /// The model that a device-info payload names (`from_dev_info` of src/protocol/handshake.rs, which knows no rig): a Xi where "FS Xi"
+    /// stands in it, else the rig where "BAY RIG" does, else a Mevo.
     pub fn from_dev_info(payload: &[u8]) -> DeviceModel
         ensures { result ≡ model_of payload.now }
     {
         if search::contains(payload, b"FS Xi") {
-            return DeviceModel::Xi;
+            return DeviceModel::XI;
         }
-        DeviceModel::Mevo
+        if search::contains(payload, b"BAY RIG") {
+            return DeviceModel::RIG;
+        }
+        DeviceModel::MEVO
     }
 
     // The model that a stored device info names, Mevo before there is one.
@@ -31,7 +61,7 @@ impl DeviceModel {
     {
         match info {
             Some(info) => DeviceModel::from_dev_info(info.payload.as_slice()),
-            None => DeviceModel::Mevo,
+            None => DeviceModel::MEVO,
         }
     }
 
@@ -39,23 +69,27 @@ impl DeviceModel {
     pub fn has_camera(self) -> bool
         ensures { result ≡ has_camera self }
     {
-        match self {
-            DeviceModel::Mevo => true,
-            DeviceModel::Xi => false,
-        }
+        self.camera
     }
 
     // Whether its AVR has the factory calibration and the settings query.
     pub fn has_factory_cal(self) -> bool
         ensures { result ≡ has_factory_cal self }
     {
-        matches!(self, DeviceModel::Mevo)
+        self.factory_cal
     }
 
     // Whether its DSP has the power-mode step.
     pub fn has_power_mode(self) -> bool
         ensures { result ≡ has_power_mode self }
     {
-        matches!(self, DeviceModel::Xi)
+        self.power_mode
+    }
+
+    /// Whether it has a Xi's three facts, and so is sent result acknowledgements.
+    pub fn is_xi(self) -> bool
+        ensures { result ≡ is_xi self }
+    {
+        self == DeviceModel::XI
     }
 }

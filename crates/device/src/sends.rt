@@ -1,7 +1,7 @@
 // The sends that belong to no sequence (src/seq.rs).
 ghost use Rattle.std.specs.Prelude.{◌≡◌};
+ghost use Rattle.device.specs.Model.{mevo};
 ghost use Rattle.device.specs.Sends.{is_result, result_ack, keepalive_for};
-ghost use Rattle.device.specs.declared.model.DeviceModel.{DeviceModel};
 
 use crate::model::DeviceModel;
 use protocol::{Action, BusAddr, Command, ConfigAck};
@@ -17,13 +17,13 @@ fn is_result(type_id: u8) -> bool
     type_id == TYPE_FLIGHT_RESULT_V1 || type_id == TYPE_FLIGHT_RESULT
 }
 
-// The app's acknowledgement of a flight result, which only the Xi expects.
+// The app's acknowledgement of a flight result, sent for exactly a Xi's three facts.
 pub fn result_ack(model: DeviceModel, src: BusAddr, type_id: u8) -> Option<Action>
     ensures { result ≡ result_ack model src type_id }
 {
-    let DeviceModel::Xi = model else {
+    if !model.is_xi() {
         return None;
-    };
+    }
     let BusAddr::Avr = src else {
         return None;
     };
@@ -34,11 +34,11 @@ pub fn result_ack(model: DeviceModel, src: BusAddr, type_id: u8) -> Option<Actio
     Some(Action::send(ack, BusAddr::Avr))
 }
 
-// A keepalive poll on a Mevo.
+/// Takes a Mevo without asking, as in seq.rs: use `keepalive_actions_for(result.model)` with the model that the DSP's result names.
 pub fn keepalive_actions() -> [Option<Action>; 3]
-    ensures { result ≡ keepalive_for DeviceModel.Mevo }
+    ensures { result ≡ keepalive_for mevo }
 {
-    keepalive_actions_for(DeviceModel::Mevo)
+    keepalive_actions_for(DeviceModel::MEVO)
 }
 
 // A keepalive poll on this model, in the order of sending; what is not sent is none.

@@ -133,7 +133,7 @@ impl DspSequencer {
         Ok(DspSync::from(self.state.replies))
     }
 
-    // The nack with which the DSP refused the Xi's power-mode write, once.
+    // The nack with which the DSP refused the power-mode write, once.
     pub fn take_refused(self) -> DspTaken
         ensures { result ≡ taken self }
     {

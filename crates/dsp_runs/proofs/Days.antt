@@ -1,4 +1,4 @@
--- The theorem at work: two lists of calls, a Xi's and a Mevo's, in which every part of it is read. A weaker theorem would not give these.
+-- The theorem at work: lists of calls of a Xi, a Mevo and the rig, in which every part of it is read. A weaker theorem would not give these.
 -- Assumes nothing.
 use Prim.Native.Nat.{ℕ}
 use mathlib.Core.Path.{◌≡◌, refl, sym, ◌∙◌, ap}
@@ -6,7 +6,7 @@ use mathlib.Core.Bool.{true, false, true≢false}
 use mathlib.Core.List.{List, [], ◌∷◌, ◌++◌}
 use lib.IntN.{ℤ}
 use lib.ListN.{length}
-use Rattle.std.specs.Prelude.{Some, None, Result, Ok, Err, option_map}
+use Rattle.std.specs.Prelude.{Some, None, Result, Ok, Err, option_map, codes}
 use Rattle.std.specs.Result.{result_ok}
 use Rattle.protocol.specs.declared.BusAddr.{BusAddr}
 use Rattle.protocol.specs.declared.Message.{Message}
@@ -16,6 +16,7 @@ use Rattle.protocol.specs.declared.DspStatus.{DspStatus}
 use Rattle.protocol.specs.Stored.{stored}
 use Rattle.device.specs.declared.model.DeviceModel.{DeviceModel}
 use Rattle.device.specs.Model.{model_of}
+use Rattle.device.specs.Model as models
 use Rattle.matching.specs.Promise.{after_all, events, Matched, First, tick}
 use Rattle.matching.proofs.Called.{run_rises}
 use Rattle.matching.proofs.Machine.{leftmost}
@@ -79,7 +80,7 @@ abbrev opened : List DspCall → List ℕ
 opened cs = leftmost reading opening (run cs)
 
 opened_earliest : (cs : List DspCall) → length (opened cs) ≡ 3 → First reading (checked 0) event begun.seq after opening cs (opened cs)
-opened_earliest cs h = leftmost_earliest {r = run cs} opening_antitone (run_rises (sequencer DeviceModel.Mevo) cs) _ (leftmost_matching {r = run cs} h)
+opened_earliest cs h = leftmost_earliest {r = run cs} opening_antitone (run_rises (sequencer models.mevo) cs) _ (leftmost_matching {r = run cs} h)
 
 abbrev told : List DspCall → List ℕ → DeviceModel
 told cs ps = model_of (payload_in (tick reading (checked 0) event begun.seq after cs ps 3))
@@ -108,44 +109,44 @@ xi_taken = xi_end ++ ask take_refused ∷ ask take_refused ∷ []
 abbrev xi_day : List DspCall
 xi_day = xi_taken ++ ask into_result ∷ status 13 ∷ []
 
-xi_info_lem : Right DeviceModel.Xi xi_info
-xi_info_lem = right.right DeviceModel.Xi xi_info (names DeviceModel.Xi xi_info refl refl)
+xi_info_lem : Right models.xi xi_info
+xi_info_lem = right.right models.xi xi_info (names models.xi xi_info refl refl)
 
-xi_asked : Right DeviceModel.Xi (xi_info ++ ask take_refused ∷ [])
-xi_asked = right.right DeviceModel.Xi (xi_info ++ ask take_refused ∷ []) (names DeviceModel.Xi (xi_info ++ ask take_refused ∷ []) refl refl)
+xi_asked : Right models.xi (xi_info ++ ask take_refused ∷ [])
+xi_asked = right.right models.xi (xi_info ++ ask take_refused ∷ []) (names models.xi (xi_info ++ ask take_refused ∷ []) refl refl)
 
-xi : Right DeviceModel.Xi xi_day
-xi = right.right DeviceModel.Xi xi_day (right.agreed DeviceModel.Xi xi_day (not, (not, (λ p. refl, (not, (not, (not, (not, (not, (not, tt))))))))))
+xi : Right models.xi xi_day
+xi = right.right models.xi xi_day (right.agreed models.xi xi_day (not, (not, (λ p. refl, (not, (not, (not, (not, (not, (not, tt))))))))))
 
-xi_end_lem : Off DeviceModel.Xi xi_end
-xi_end_lem = (places DeviceModel.Xi xi_end, leftmost_matching {r = run xi_end} refl)
+xi_end_lem : Off models.xi xi_end
+xi_end_lem = (places models.xi xi_end, leftmost_matching {r = run xi_end} refl)
 
-pub xi_places : places DeviceModel.Xi xi_day ≡ 0 ∷ 1 ∷ 2 ∷ 3 ∷ 4 ∷ 5 ∷ 6 ∷ 7 ∷ []
+pub xi_places : places models.xi xi_day ≡ 0 ∷ 1 ∷ 2 ∷ 3 ∷ 4 ∷ 5 ∷ 6 ∷ 7 ∷ []
 xi_places = refl
 
-pub xi_ticked_off : Off DeviceModel.Xi xi_day
+pub xi_ticked_off : Off models.xi xi_day
 unfolding stored
 xi_ticked_off = xi.ends.done.0 refl
 
 pub xi_done : (state xi_day).state.step ≡ DspStep.Done
-xi_done = xi.ends.done.1 (places DeviceModel.Xi xi_day, leftmost_matching {r = run xi_day} refl)
+xi_done = xi.ends.done.1 (places models.xi xi_day, leftmost_matching {r = run xi_day} refl)
 
-pub xi_first : (ps : List ℕ) × At DeviceModel.Xi xi_day ps
+pub xi_first : (ps : List ℕ) × At models.xi xi_day ps
 xi_first = xi.ends.first xi_ticked_off
 
 pub xi_taken_early : (taken (state xi_info)).refused ≡ None
 unfolding stored
-xi_taken_early = xi.took.before xi_info _ refl (not_yet DeviceModel.Xi xi_info xi_info_lem refl)
+xi_taken_early = xi.took.before xi_info _ refl (not_yet models.xi xi_info xi_info_lem refl)
 
 pub xi_asked_early : finished (state (xi_info ++ ask take_refused ∷ [])) ≡ Err NotDone
 unfolding stored
-xi_asked_early = xi.asked.before (xi_info ++ ask take_refused ∷ []) _ refl (not_yet DeviceModel.Xi (xi_info ++ ask take_refused ∷ []) xi_asked refl)
+xi_asked_early = xi.asked.before (xi_info ++ ask take_refused ∷ []) _ refl (not_yet models.xi (xi_info ++ ask take_refused ∷ []) xi_asked refl)
 
 pub xi_taken_lem : (taken (state xi_end)).refused ≡ Some (record { src = BusAddr.Dsp; type_id = 0x94; nack = record { bus_addr = 0x40; acked_cmd = 0x3F } })
-xi_taken_lem = xi.took.from xi_end _ refl xi_end_lem (places DeviceModel.Xi xi_day) (earliest DeviceModel.Xi xi_day xi_ticked_off)
+xi_taken_lem = xi.took.from xi_end _ refl xi_end_lem (places models.xi xi_day) (earliest models.xi xi_day xi_ticked_off)
 
 pub xi_taken_again : (taken (state (xi_end ++ ask take_refused ∷ []))).refused ≡ None
-xi_taken_again = xi.took.from (xi_end ++ ask take_refused ∷ []) _ refl xi_end_lem (places DeviceModel.Xi xi_day) (earliest DeviceModel.Xi xi_day xi_ticked_off)
+xi_taken_again = xi.took.from (xi_end ++ ask take_refused ∷ []) _ refl xi_end_lem (places models.xi xi_day) (earliest models.xi xi_day xi_ticked_off)
 
 pub xi_result : finished (state xi_taken)
     ≡ Ok (record {
@@ -155,10 +156,10 @@ pub xi_result : finished (state xi_taken)
       dev_info = record { text = stored []; payload = stored (70 ∷ 83 ∷ 32 ∷ 88 ∷ 105 ∷ []) };
       prod_info = record { text = stored (65 ∷ []) } ∷ record { text = stored (66 ∷ []) } ∷ record { text = stored (67 ∷ []) } ∷ [];
       config = record { params = ℤ.pos 5 ∷ [] };
-      model = DeviceModel.Xi;
+      model = models.xi;
       power_mode_unanswered = false;
     })
-xi_result = xi.asked.from xi_taken _ refl xi_end_lem (places DeviceModel.Xi xi_day) (earliest DeviceModel.Xi xi_day xi_ticked_off)
+xi_result = xi.asked.from xi_taken _ refl xi_end_lem (places models.xi xi_day) (earliest models.xi xi_day xi_ticked_off)
 
 -- ---- a Mevo: the query is not answered; a check ticks it 2 s after the status, and an earlier one doesn't
 
@@ -172,44 +173,103 @@ mevo_end =
 abbrev mevo_day : List DspCall
 mevo_day = mevo_end ++ ask take_refused ∷ ask into_result ∷ []
 
-mevo_info_lem : Right DeviceModel.Mevo mevo_info
-mevo_info_lem = right.right DeviceModel.Mevo mevo_info (names DeviceModel.Mevo mevo_info refl refl)
+mevo_info_lem : Right models.mevo mevo_info
+mevo_info_lem = right.right models.mevo mevo_info (names models.mevo mevo_info refl refl)
 
-mevo : Right DeviceModel.Mevo mevo_day
-mevo = right.right DeviceModel.Mevo mevo_day (names DeviceModel.Mevo mevo_day refl refl)
+mevo : Right models.mevo mevo_day
+mevo = right.right models.mevo mevo_day (names models.mevo mevo_day refl refl)
 
-mevo_end_lem : Off DeviceModel.Mevo mevo_end
-mevo_end_lem = (places DeviceModel.Mevo mevo_end, leftmost_matching {r = run mevo_end} refl)
+mevo_end_lem : Off models.mevo mevo_end
+mevo_end_lem = (places models.mevo mevo_end, leftmost_matching {r = run mevo_end} refl)
 
-mevo_ticked_off : Off DeviceModel.Mevo mevo_day
+mevo_ticked_off : Off models.mevo mevo_day
 unfolding stored
 mevo_ticked_off = mevo.ends.done.0 refl
 
-pub mevo_places : places DeviceModel.Mevo mevo_day ≡ 0 ∷ 2 ∷ 3 ∷ 4 ∷ 5 ∷ 6 ∷ 7 ∷ []
+pub mevo_places : places models.mevo mevo_day ≡ 0 ∷ 2 ∷ 3 ∷ 4 ∷ 5 ∷ 6 ∷ 7 ∷ []
 mevo_places = refl
 
 pub mevo_done : (state mevo_day).state.step ≡ DspStep.Done
-mevo_done = mevo.ends.done.1 (places DeviceModel.Mevo mevo_day, leftmost_matching {r = run mevo_day} refl)
+mevo_done = mevo.ends.done.1 (places models.mevo mevo_day, leftmost_matching {r = run mevo_day} refl)
 
 pub mevo_asked_early : finished (state mevo_info) ≡ Err NotDone
-mevo_asked_early = mevo.asked.before mevo_info _ refl (not_yet DeviceModel.Mevo mevo_info mevo_info_lem refl)
+mevo_asked_early = mevo.asked.before mevo_info _ refl (not_yet models.mevo mevo_info mevo_info_lem refl)
 
 pub mevo_taken : (taken (state mevo_end)).refused ≡ None
-mevo_taken = mevo.took.from mevo_end _ refl mevo_end_lem (places DeviceModel.Mevo mevo_day) (earliest DeviceModel.Mevo mevo_day mevo_ticked_off)
+mevo_taken = mevo.took.from mevo_end _ refl mevo_end_lem (places models.mevo mevo_day) (earliest models.mevo mevo_day mevo_ticked_off)
 
-pub mevo_model : option_map (λ (y : DspSync). y.model) (result_ok (finished (state (mevo_end ++ ask take_refused ∷ [])))) ≡ Some DeviceModel.Mevo
+pub mevo_model : option_map (λ (y : DspSync). y.model) (result_ok (finished (state (mevo_end ++ ask take_refused ∷ [])))) ≡ Some models.mevo
 mevo_model =
     ap (λ (f : Result DspSync Refusal). option_map (λ (y : DspSync). y.model) (result_ok f))
-    (mevo.asked.from (mevo_end ++ ask take_refused ∷ []) _ refl mevo_end_lem (places DeviceModel.Mevo mevo_day) (earliest DeviceModel.Mevo mevo_day mevo_ticked_off))
+    (mevo.asked.from (mevo_end ++ ask take_refused ∷ []) _ refl mevo_end_lem (places models.mevo mevo_day) (earliest models.mevo mevo_day mevo_ticked_off))
 
--- ---- a unit that names both models: the device info at entry 3 decides, whatever came before it and comes after it
+-- ---- the practice rig: done with the seventh entry, as a Mevo is; a power mode is not waited for
+
+abbrev rig_payload : List ℕ
+rig_payload = codes "BAY RIG"
+
+abbrev rig_info : List DspCall
+rig_info = status 5 ∷ check 2_000_000_005 ∷ dev_info rig_payload 2_000_000_006 ∷ []
+
+abbrev rig_end : List DspCall
+rig_end =
+    rig_info ++ ask into_result ∷ prod_info 65 2_000_000_007 ∷ prod_info 66 2_000_000_007 ∷ prod_info 67 2_000_000_007 ∷ config 2_000_000_008 ∷ []
+
+abbrev rig_day : List DspCall
+rig_day = rig_end ++ ask into_result ∷ nack 0x3F 2_000_000_009 ∷ ask take_refused ∷ []
+
+rig_info_lem : Right models.rig rig_info
+rig_info_lem = right.right models.rig rig_info (names models.rig rig_info refl refl)
+
+rig : Right models.rig rig_day
+rig = right.right models.rig rig_day (names models.rig rig_day refl refl)
+
+rig_end_lem : Off models.rig rig_end
+rig_end_lem = (places models.rig rig_end, leftmost_matching {r = run rig_end} refl)
+
+pub rig_named : (right.named rig_day).0 ≡ models.rig
+rig_named = sym ((right.named rig_day).1 (opened rig_day) (opened_earliest rig_day refl))
+
+pub rig_entries : length (table models.rig) ≡ 7
+rig_entries = refl
+
+pub rig_places : places models.rig rig_day ≡ 0 ∷ 1 ∷ 2 ∷ 3 ∷ 4 ∷ 5 ∷ 6 ∷ []
+rig_places = refl
+
+pub rig_ticked_off : Off models.rig rig_day
+unfolding stored
+rig_ticked_off = rig.ends.done.0 refl
+
+pub rig_done : (state rig_day).state.step ≡ DspStep.Done
+rig_done = rig.ends.done.1 (places models.rig rig_day, leftmost_matching {r = run rig_day} refl)
+
+pub rig_asked_early : finished (state rig_info) ≡ Err NotDone
+rig_asked_early = rig.asked.before rig_info _ refl (not_yet models.rig rig_info rig_info_lem refl)
+
+-- the nack of a power mode that it never waited for is none of its own
+pub rig_taken : (taken (state (rig_end ++ ask into_result ∷ nack 0x3F 2_000_000_009 ∷ []))).refused ≡ None
+rig_taken =
+    rig.took.from (rig_end ++ ask into_result ∷ nack 0x3F 2_000_000_009 ∷ []) _ refl
+    (places models.rig (rig_end ++ ask into_result ∷ nack 0x3F 2_000_000_009 ∷ []), leftmost_matching {r = run (rig_end ++ ask into_result ∷ nack 0x3F 2_000_000_009 ∷ [])} refl)
+    (places models.rig rig_day) (earliest models.rig rig_day rig_ticked_off)
+
+pub rig_model : option_map (λ (y : DspSync). y.model) (result_ok (finished (state rig_end))) ≡ Some models.rig
+rig_model =
+    ap (λ (f : Result DspSync Refusal). option_map (λ (y : DspSync). y.model) (result_ok f))
+    (rig.asked.from rig_end _ refl rig_end_lem (places models.rig rig_day) (earliest models.rig rig_day rig_ticked_off))
+
+-- both tags, the rig's first: a Xi
+pub both_tags : model_of (codes "BAY RIG FS Xi") ≡ models.xi
+both_tags = refl
+
+-- ---- a unit that names two models: the device info at entry 3 decides, whatever came before it and comes after it
 
 abbrev both_day : List DspCall
 both_day = dev_info (70 ∷ 83 ∷ 32 ∷ 88 ∷ 105 ∷ []) 4 ∷ mevo_end ++ dev_info (70 ∷ 83 ∷ 32 ∷ 88 ∷ 105 ∷ []) 2_000_000_009 ∷ []
 
-pub both_named : (right.named both_day).0 ≡ DeviceModel.Mevo
+pub both_named : (right.named both_day).0 ≡ models.mevo
 both_named = sym ((right.named both_day).1 (opened both_day) (opened_earliest both_day refl))
 
-pub both_ticked_off : Off DeviceModel.Mevo both_day
+pub both_ticked_off : Off models.mevo both_day
 unfolding stored
-both_ticked_off = (right.right DeviceModel.Mevo both_day (names DeviceModel.Mevo both_day refl refl)).ends.done.0 refl
+both_ticked_off = (right.right models.mevo both_day (names models.mevo both_day refl refl)).ends.done.0 refl

@@ -12,7 +12,7 @@ use Rattle.std.specs.Prelude.{Option, None, Result, Ok, Err}
 use Rattle.protocol.specs.declared.Refusal.{Refusal}
 use Rattle.protocol.proofs.StoredBytes.{content_stored}
 use Rattle.device.specs.declared.model.DeviceModel.{DeviceModel}
-use Rattle.device.specs.Model.{model_of, model_in, has_power_mode}
+use Rattle.device.specs.Model.{model_of, model_in, has_power_mode, mevo}
 use Rattle.matching.specs.Promise.{Each, after_all, clock, events}
 use Rattle.matching.proofs.Machine.{Antitone, reading_of, ticks, ticked_from, ticked as tickedIn, leftmost}
 use Rattle.matching.proofs.Embeds.{length-snoc}
@@ -173,13 +173,13 @@ abbrev run : List DspCall → List (Event Envelope)
 run cs = events reading event 0 cs
 
 pub opening_antitone : Each Antitone opening
-opening_antitone = rows.table_antitone (row DeviceModel.Mevo) (next DeviceModel.Mevo) Done (WaitStatus ∷ WaitDspQuery ∷ WaitDevInfo ∷ [])
+opening_antitone = rows.table_antitone (row mevo) (next mevo) Done (WaitStatus ∷ WaitDspQuery ∷ WaitDevInfo ∷ [])
 
 -- every list names a model
 pub named : (cs : List DspCall) → (m : DeviceModel) × Names m cs
 named cs = (
   model_of (payload_in (get_or (tickedIn reading opening (run cs)) 2 nil)),
-  λ ps f. ap (λ (l : List (Event Envelope)). model_of (payload_in (get_or l 2 nil))) (sym (ticked_earliest reading nil opening opening_antitone (run_rises (sequencer DeviceModel.Mevo) cs) f)),
+  λ ps f. ap (λ (l : List (Event Envelope)). model_of (payload_in (get_or l 2 nil))) (sym (ticked_earliest reading nil opening opening_antitone (run_rises (sequencer mevo) cs) f)),
 )
 
 says : (m : DeviceModel) (t : ℕ) (e : Event Envelope) → Says m e → test entry3 t e ≡ true → model_of (payload_in e) ≡ m

@@ -34,7 +34,7 @@ result_of m at = record {
   power_mode_unanswered = has_power_mode m && unanswered_in (at 8) false;
 }
 
--- What a taking gives: without a power-mode step (Mevo) nothing; with it (Xi) the nack that ticked entry 8, if one did and none of the
+-- What a taking gives: without a power-mode step nothing; with it the nack that ticked entry 8, if one did and none of the
 -- calls since took it.
 abbrev pub nack_of : Bool → List DspCall → (ℕ → Event Envelope) → Option Nack
 nack_of false since at = None
@@ -56,7 +56,7 @@ Says m (checked t) = Unit {0}
 
 -- nothing looks past the end of a run; a start-up begins as `new` leaves it
 module _ (m : DeviceModel) (cs : List DspCall) where
-  -- The list names m: the device info that ticks entry 3 does. A list in which none does names either model.
+  -- The list names m: the device info that ticks entry 3 does. A list in which none does names every model.
   abbrev pub Names : Type 0
   Names = (ps : List ℕ) → First reading (checked 0) event begun.seq after opening cs ps
       → model_of (payload_in (tick reading (checked 0) event begun.seq after cs ps 3)) ≡ m

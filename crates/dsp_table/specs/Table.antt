@@ -51,11 +51,11 @@ entry5 = prod_info 1 (Some (prod_info_req 0x09))
 abbrev pub entry6 : DspRow
 entry6 = prod_info 2 (Some (send_to BusAddr.Dsp Command.ConfigQuery))
 
--- 7. a ConfigResp; then on a Xi the power mode is written, and a Mevo is done
+-- 7. a ConfigResp; then the power mode is written, or without the step it is done
 abbrev pub entry7 : DeviceModel → DspRow
 entry7 m = record { reply = from_dsp config_resp; wait = forever; send = λ e. cond (has_power_mode m) (Some power_mode) None; store = store 7 }
 
--- 8. Xi only: a ConfigAck or a ConfigNack of 0x3F, or a check 2 s after entry 7; then it is done
+-- 8. with the power-mode step: a ConfigAck or a ConfigNack of 0x3F, or a check 2 s after entry 7; then it is done
 abbrev pub entry8 : DspRow
 entry8 = record {
   reply = either (acking 0x40 config_ack 0x3F) (acking 0x40 config_nack 0x3F);

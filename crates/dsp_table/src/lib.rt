@@ -11,7 +11,7 @@ use protocol::{
     ParamValue, ProdInfoReq, ProdInfoResp, StatusPoll, Stored,
 };
 
-// The power mode (param 0x01 of the Xi's DSP), and its value Normal.
+// The power mode (param 0x01 of a DSP that has the step, as the Xi's), and its value Normal.
 const XI_DSP_POWER_MODE_ID: u8 = 0x01;
 
 const XI_DSP_POWER_MODE_NORMAL: i32 = 1;
@@ -25,7 +25,7 @@ pub enum DspStep {
     WaitProdInfo1,
     WaitProdInfo2,
     WaitConfig,
-    // Xi only
+    // with the power-mode step
     WaitPowerMode,
     Done,
 }

@@ -1,12 +1,13 @@
 -- What the sends that belong to no sequence answer to a host. Definitions only.
 -- Assumes nothing.
-use Rattle.std.specs.Prelude.{ℕ, List, map, replicate, ℤ, Option, None, Result, Ok, Err}
+use Rattle.std.specs.Prelude.{ℕ, List, map, ℤ, Option, None, Result, Ok, Err}
 use Rattle.std.specs.Result.{result_unwrap_or}
 use Rattle.protocol.specs.declared.Action.{Action}
 use Rattle.protocol.specs.declared.Refusal.{Refusal}
+use Rattle.device.specs.declared.model.DeviceModel.{DeviceModel}
 use Rattle.device.specs.Sends as device
 use Rattle.abi_values.specs.declared.UnknownNumber.{UnknownNumber}
-use Rattle.abi_values.specs.Numbers.{addr_in, model_in}
+use Rattle.abi_values.specs.Numbers.{addr_in}
 use Rattle.abi_messages.specs.declared.Envelope as host
 use Rattle.abi.specs.declared.action.CAction.{CAction}
 use Rattle.abi.specs.Actions.{nothing, action_out}
@@ -35,15 +36,13 @@ sent o = action_out (result_unwrap_or o None)
 abbrev pub opened : host.Envelope → List ℤ → List ℕ → List ℕ → Envelope
 opened v ps text payload = record { src = v.src; type_id = v.type_id; message = v.message; params = ps; text = text; payload = payload }
 
-abbrev pub result_ack : ℕ → ℕ → ℕ → CSent
+abbrev pub result_ack : DeviceModel → ℕ → ℕ → CSent
 result_ack model src id =
-    both (model_in model) (addr_in src) (λ m a. record { refusal = 0; action = action_out (device.result_ack m a id) })
+    known (addr_in src) (λ a. record { refusal = 0; action = action_out (device.result_ack model a id) })
     (record { refusal = unknown; action = nothing })
 
 abbrev pub keepalive_out : List (Option Action) → List CAction
 keepalive_out xs = map action_out xs
 
-abbrev pub keepalive : ℕ → CKeepalive
-keepalive model =
-    known (model_in model) (λ m. record { refusal = 0; actions = keepalive_out (device.keepalive_for m) })
-    (record { refusal = unknown; actions = replicate 3 nothing })
+abbrev pub keepalive : DeviceModel → CKeepalive
+keepalive model = record { actions = keepalive_out (device.keepalive_for model) }

@@ -4,11 +4,11 @@ use Rattle.std.specs.Prelude.{ℕ, List, None, Result, Ok, Err}
 use Rattle.protocol.specs.declared.Refusal.{Refusal}
 use Rattle.protocol.specs.Refusals.{number}
 use Rattle.device.specs.declared.model.DeviceModel.{DeviceModel}
+use Rattle.device.specs.Model.{mevo}
 use Rattle.dsp.specs.declared.DspSync.{DspSync}
 use Rattle.dsp.specs.Answers as dsp
 use Rattle.avr.specs.declared.AvrSync.{AvrSync}
 use Rattle.avr.specs.Answers as avr
-use Rattle.abi_values.specs.Numbers.{model_in, model_out}
 use Rattle.abi_messages.specs.declared.CEnvelope.{CEnvelope}
 use Rattle.abi_messages.specs.Messages.{envelope_in, dsp_status_out}
 use Rattle.abi_dsp.specs.declared.CDsp.{CDsp}
@@ -49,7 +49,7 @@ dsp_sync s = record {
   dev_info = s.dev_info;
   prod_info = s.prod_info;
   config = s.config;
-  model = model_out s.model;
+  model = s.model;
   power_mode_unanswered = s.power_mode_unanswered;
 }
 
@@ -75,17 +75,10 @@ abbrev pub avr_fed : Fed CAvr → CAvrFed
 avr_fed f = record { refusal = f.refusal; action = f.action; seq = f.seq }
 
 abbrev pub avr_new : CAvrFed
-avr_new = avr_fed (first avr_out (avr.begun DeviceModel.Mevo))
+avr_new = avr_fed (first avr_out (avr.begun mevo))
 
--- no step has this number: every call declines it, so that no model is taken by default
-abbrev pub at255 : CAvr → CAvr
-at255 c = record { step = 255; model = c.model; replies = c.replies; cal_deadline = c.cal_deadline; repoll_at = c.repoll_at; last = c.last }
-
-abbrev pub avr_unknown : CAvr
-avr_unknown = at255 (avr_out (avr.begun DeviceModel.Mevo).seq)
-
-abbrev pub avr_new_for : ℕ → CAvrFed
-avr_new_for model = avr_fed (known (model_in model) (λ m. first avr_out (avr.begun m)) (declined avr_unknown))
+abbrev pub avr_new_for : DeviceModel → CAvrFed
+avr_new_for model = avr_fed (first avr_out (avr.begun model))
 
 abbrev pub avr_feed : CAvr → CEnvelope → List ℕ → List ℕ → ℕ → ℕ → CAvrFed
 avr_feed c e text payload t wall =
@@ -106,7 +99,7 @@ avr_sync s = record {
 }
 
 abbrev pub no_avr_result : ℕ → CAvrFinished
-no_avr_result n = record { refusal = n; sync = avr_sync (avr.sync_of (avr.begun DeviceModel.Mevo).seq.state.replies) }
+no_avr_result n = record { refusal = n; sync = avr_sync (avr.sync_of (avr.begun mevo).seq.state.replies) }
 
 abbrev pub avr_finished : Result AvrSync Refusal → CAvrFinished
 avr_finished (Ok s) = record { refusal = 0; sync = avr_sync s }

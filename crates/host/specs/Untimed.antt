@@ -6,6 +6,7 @@ use Rattle.protocol.specs.declared.Refusal.{Refusal}
 use Rattle.protocol.specs.Refusals.{number}
 use Rattle.settings.specs.Settings.{mode_only}
 use Rattle.device.specs.declared.model.DeviceModel.{DeviceModel}
+use Rattle.device.specs.Model.{mevo}
 use Rattle.sequence.specs.Rows.{refused}
 use Rattle.pi.specs.declared.PiSync.{PiSync}
 use Rattle.pi.specs.Answers as pi
@@ -13,7 +14,6 @@ use Rattle.avr_config.specs.declared.AvrConfigSequencer.{AvrConfigSequencer}
 use Rattle.avr_config.specs.Answers as config
 use Rattle.arm.specs.Answers as arm
 use Rattle.disarm.specs.Answers as disarm
-use Rattle.abi_values.specs.Numbers.{model_in}
 use Rattle.abi_messages.specs.declared.CEnvelope.{CEnvelope}
 use Rattle.abi_messages.specs.Messages.{envelope_in}
 use Rattle.abi.specs.declared.config.CSettings.{CSettings}
@@ -83,14 +83,10 @@ abbrev pub arm_fed : Fed CArm → CArmFed
 arm_fed f = record { refusal = f.refusal; action = f.action; seq = f.seq }
 
 abbrev pub arm_new : CArmFed
-arm_new = arm_fed (first arm_out (arm.begun DeviceModel.Mevo))
+arm_new = arm_fed (first arm_out (arm.begun mevo))
 
--- no step has this number: every call declines it, so that no model is taken by default
-abbrev pub arm_unknown : CArm
-arm_unknown = record { step = record { number = 255; got_pi = false; got_armed = false }; retries = 0; wait_pi = false }
-
-abbrev pub arm_new_for : ℕ → CArmFed
-arm_new_for model = arm_fed (known (model_in model) (λ m. first arm_out (arm.begun m)) (declined arm_unknown))
+abbrev pub arm_new_for : DeviceModel → CArmFed
+arm_new_for model = arm_fed (first arm_out (arm.begun model))
 
 abbrev pub arm_feed : CArm → CEnvelope → List ℕ → List ℕ → CArmFed
 arm_feed c e text payload = arm_fed (both (arm_in c) (envelope_in e) (λ s v. answered arm_out (arm.fed_to s (opened v [] text payload)) c) (declined c))

@@ -1,15 +1,15 @@
 // Arm. C calls no function and takes no record with a type parameter, so what is alike in the
 // files of other sequences stands here again.
 ghost use Rattle.std.specs.Prelude.{◌≡◌};
-ghost use Rattle.host.specs.Untimed.{arm_unknown, arm_new_for, arm_fed, arm_feed, arm_retries, arm_new};
+ghost use Rattle.host.specs.Untimed.{arm_new_for, arm_fed, arm_feed, arm_retries, arm_new};
 
 use crate::UNKNOWN;
 use crate::fed::Fed;
 use abi::action::CAction;
-use abi_arm::{CArm, CArmStep};
+use abi_arm::CArm;
 use abi_messages::{CEnvelope, Envelope};
-use abi_values::model_in;
 use arm::ArmSequencer;
+use device::model::DeviceModel;
 
 #[repr(C)]
 #[derive(Clone, Copy)]
@@ -39,21 +39,6 @@ impl From<Fed<CArm>> for CArmFed {
     }
 }
 
-// A state at a step that there is not, which every call declines.
-fn unknown() -> CArm
-    ensures { result ≡ arm_unknown }
-{
-    CArm {
-        step: CArmStep {
-            number: 255,
-            got_pi: false,
-            got_armed: false,
-        },
-        retries: 0,
-        wait_pi: false,
-    }
-}
-
 /// Takes a Mevo without asking: use `wigtalom_arm_new_for` with the model of the DSP's result.
 #[unsafe(no_mangle)]
 pub extern "C" fn wigtalom_arm_new() -> CArmFed
@@ -63,13 +48,10 @@ pub extern "C" fn wigtalom_arm_new() -> CArmFed
 }
 
 #[unsafe(no_mangle)]
-pub extern "C" fn wigtalom_arm_new_for(model: u8) -> CArmFed
+pub extern "C" fn wigtalom_arm_new_for(model: DeviceModel) -> CArmFed
     ensures { result ≡ arm_new_for model }
 {
-    match model_in(model) {
-        Ok(model) => Fed::<CArm>::from(ArmSequencer::new_for(model)).into(),
-        Err(_) => Fed::declined(unknown()).into(),
-    }
+    Fed::<CArm>::from(ArmSequencer::new_for(model)).into()
 }
 
 // C calls a function that takes no type parameter, and so each sequence has its own.

@@ -1,15 +1,15 @@
 // The AVR start-up. C calls no function and takes no record with a type parameter, so what is alike in the
 // files of other sequences stands here again.
 ghost use Rattle.std.specs.Prelude.{◌≡◌};
-ghost use Rattle.host.specs.Timed.{avr_unknown, avr_new_for, avr_fed, avr_feed, avr_check, avr_sync, no_avr_result, avr_finished, avr_result, avr_new};
+ghost use Rattle.host.specs.Timed.{avr_new_for, avr_fed, avr_feed, avr_check, avr_sync, no_avr_result, avr_finished, avr_result, avr_new};
 
 use crate::UNKNOWN;
 use crate::fed::Fed;
 use abi::action::CAction;
 use abi_avr::{CAvr, COptionStored};
 use abi_messages::{CEnvelope, Envelope};
-use abi_values::model_in;
 use avr::{AvrSequencer, AvrSync};
+use device::model::DeviceModel;
 use protocol::{AvrStatus, ConfigResp, DevInfoResp, Refusal};
 
 #[repr(C)]
@@ -91,16 +91,6 @@ impl From<Result<AvrSync, Refusal>> for CAvrFinished {
     }
 }
 
-// A state at a step that there is not, which every call declines.
-fn unknown() -> CAvr
-    ensures { result ≡ avr_unknown }
-{
-    CAvr {
-        step: 255,
-        ..AvrSequencer::new().seq.into()
-    }
-}
-
 /// Takes a Mevo without asking: use `wigtalom_avr_new_for` with the model of the DSP's result.
 #[unsafe(no_mangle)]
 pub extern "C" fn wigtalom_avr_new() -> CAvrFed
@@ -110,13 +100,10 @@ pub extern "C" fn wigtalom_avr_new() -> CAvrFed
 }
 
 #[unsafe(no_mangle)]
-pub extern "C" fn wigtalom_avr_new_for(model: u8) -> CAvrFed
+pub extern "C" fn wigtalom_avr_new_for(model: DeviceModel) -> CAvrFed
     ensures { result ≡ avr_new_for model }
 {
-    match model_in(model) {
-        Ok(model) => Fed::<CAvr>::from(AvrSequencer::new_for(model)).into(),
-        Err(_) => Fed::declined(unknown()).into(),
-    }
+    Fed::<CAvr>::from(AvrSequencer::new_for(model)).into()
 }
 
 // C calls a function that takes no type parameter, and so each sequence has its own.

@@ -8,7 +8,7 @@ use crate::fed::Fed;
 use abi::action::CAction;
 use abi_dsp::{CDsp, COptionDspQueryResp, COptionNack};
 use abi_messages::{CDspStatus, CEnvelope, Envelope};
-use abi_values::model_out;
+use device::model::DeviceModel;
 use dsp::{DspSequencer, DspSync};
 use protocol::{ConfigResp, DevInfoResp, ProdInfoResp, Refusal, Stored};
 
@@ -29,7 +29,7 @@ pub struct CDspSync {
     pub dev_info: DevInfoResp,
     pub prod_info: [ProdInfoResp; 3],
     pub config: ConfigResp,
-    pub model: u8,
+    pub model: DeviceModel,
     pub power_mode_unanswered: bool,
 }
 
@@ -74,7 +74,7 @@ impl From<DspSync> for CDspSync {
             dev_info: sync.dev_info,
             prod_info,
             config: sync.config,
-            model: model_out(sync.model),
+            model: sync.model,
             power_mode_unanswered: sync.power_mode_unanswered,
         }
     }

@@ -12,5 +12,5 @@ mod c_pi;
 mod fed;
 mod sends;
 
-// A number that no case has: a kind, a device, a model, a step, a layout or a format.
+// A number that no case has: a kind, a device, a step, a layout or a format.
 const UNKNOWN: u8 = 21;

@@ -1,12 +1,11 @@
 // The model, and the sends that belong to no sequence.
 ghost use Rattle.std.specs.Prelude.{◌≡◌};
 ghost use Rattle.device.specs.Model.{model_of};
-ghost use Rattle.abi_values.specs.Numbers.{model_out};
 ghost use Rattle.host.specs.Sends.{result_ack, keepalive};
 
 use crate::UNKNOWN;
 use abi::action::CAction;
-use abi_values::{addr_in, model_in, model_out};
+use abi_values::addr_in;
 use device::model::DeviceModel;
 use device::sends;
 
@@ -20,23 +19,22 @@ pub struct CSent {
 #[repr(C)]
 #[derive(Clone, Copy)]
 pub struct CKeepalive {
-    pub refusal: u8,
     pub actions: [CAction; 3],
 }
 
 // The model that a device-info payload names.
 #[unsafe(no_mangle)]
-pub extern "C" fn wigtalom_model(payload: &[u8]) -> u8
-    ensures { result ≡ model_out (model_of payload.now) }
+pub extern "C" fn wigtalom_model(payload: &[u8]) -> DeviceModel
+    ensures { result ≡ model_of payload.now }
 {
-    model_out(DeviceModel::from_dev_info(payload))
+    DeviceModel::from_dev_info(payload)
 }
 
 #[unsafe(no_mangle)]
-pub extern "C" fn wigtalom_result_ack(model: u8, src: u8, type_id: u8) -> CSent
+pub extern "C" fn wigtalom_result_ack(model: DeviceModel, src: u8, type_id: u8) -> CSent
     ensures { result ≡ result_ack model src type_id }
 {
-    let (Ok(model), Ok(src)) = (model_in(model), addr_in(src)) else {
+    let Ok(src) = addr_in(src) else {
         return CSent {
             refusal: UNKNOWN,
             action: CAction::none(),
@@ -49,18 +47,11 @@ pub extern "C" fn wigtalom_result_ack(model: u8, src: u8, type_id: u8) -> CSent
 }
 
 #[unsafe(no_mangle)]
-pub extern "C" fn wigtalom_keepalive(model: u8) -> CKeepalive
+pub extern "C" fn wigtalom_keepalive(model: DeviceModel) -> CKeepalive
     ensures { result ≡ keepalive model }
 {
-    let Ok(model) = model_in(model) else {
-        return CKeepalive {
-            refusal: UNKNOWN,
-            actions: [CAction::none(); 3],
-        };
-    };
     let polls = sends::keepalive_actions_for(model);
     CKeepalive {
-        refusal: 0,
         actions: polls.map(CAction::from),
     }
 }

@@ -11,7 +11,7 @@ use Rattle.disarm_runs.specs.Theorem as disarm
 pub record Promises : Type 0 where
   -- a DSP start-up, by the model that its device info names; its result, and the nack that is kept
   pub dsp : dsp.Theorem
-  -- an AVR start-up of either model, and its result
+  -- an AVR start-up of any model, and its result
   pub avr : avr.Theorem
   -- a Pi start-up, and its result
   pub pi : pi.Theorem

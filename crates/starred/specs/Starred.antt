@@ -12,7 +12,7 @@ use Rattle.protocol.specs.declared.Stored.{Stored}
 use Rattle.protocol.specs.Stored.{stored}
 use Rattle.protocol.specs.Action.{send_to}
 use Rattle.device.specs.declared.model.DeviceModel.{DeviceModel}
-use Rattle.device.specs.Model.{model_of}
+use Rattle.device.specs.Model.{model_of, mevo, xi}
 use Rattle.device.specs.Sends.{result_ack}
 use Rattle.protocol.specs.Carried.{no_avr_status}
 use Rattle.sequence.specs.Events.{Envelope, Event, fed, plain}
@@ -74,7 +74,7 @@ nack = record {
 }
 
 abbrev refused : AvrSequencer
-refused = (avr.fed_to (avr.fed_to (avr.begun DeviceModel.Mevo).seq nack 1_000_000_000).seq nack 1_500_000_000).seq
+refused = (avr.fed_to (avr.fed_to (avr.begun mevo).seq nack 1_000_000_000).seq nack 1_500_000_000).seq
 
 -- a network text
 abbrev network : List ℕ → Event Envelope
@@ -85,7 +85,7 @@ abbrev last_step : ArmSequencer
 last_step =
     let fed : ArmSequencer → Message → BusAddr → ArmSequencer = λ s m b. (arm.fed_to s (plain b m [])).seq in
     fed
-    (fed (fed (arm.begun DeviceModel.Xi).seq dsp_status.message BusAddr.Dsp) (Message.AvrStatus no_avr_status) BusAddr.Avr)
+    (fed (fed (arm.begun xi).seq dsp_status.message BusAddr.Dsp) (Message.AvrStatus no_avr_status) BusAddr.Avr)
     (Message.ConfigAck (record { bus_addr = 0x30; acked_cmd = 0x30 }))
     BusAddr.Avr
 
@@ -95,18 +95,18 @@ said text = (arm.fed_to last_step (plain BusAddr.Avr Message.Text text)).seq.ste
 abbrev pub starred : List Trial
 starred =
     -- payload "FS Xi": Xi
-    trial (model (model_of (codes "FS Xi"))) (model DeviceModel.Xi) ∷
+    trial (model (model_of (codes "FS Xi"))) (model xi) ∷
     -- "FS X": Mevo
-    trial (model (model_of (codes "FS X"))) (model DeviceModel.Mevo) ∷
+    trial (model (model_of (codes "FS X"))) (model mevo) ∷
     -- "abFS Xi": Xi
-    trial (model (model_of (codes "abFS Xi"))) (model DeviceModel.Xi) ∷
+    trial (model (model_of (codes "abFS Xi"))) (model xi) ∷
     -- Xi, Avr, 0xD4: ack 0x54
-    trial (action (result_ack DeviceModel.Xi BusAddr.Avr 0xD4)) (action (Some (ack 0x54))) ∷
+    trial (action (result_ack xi BusAddr.Avr 0xD4)) (action (Some (ack 0x54))) ∷
     -- 0xE8: ack 0x68
-    trial (action (result_ack DeviceModel.Xi BusAddr.Avr 0xE8)) (action (Some (ack 0x68))) ∷
+    trial (action (result_ack xi BusAddr.Avr 0xE8)) (action (Some (ack 0x68))) ∷
     -- Mevo: no ack
-    trial (action (result_ack DeviceModel.Mevo BusAddr.Avr 0xD4)) (action None) ∷
-    trial (action (result_ack DeviceModel.Mevo BusAddr.Avr 0xE8)) (action None) ∷
+    trial (action (result_ack mevo BusAddr.Avr 0xD4)) (action None) ∷
+    trial (action (result_ack mevo BusAddr.Avr 0xE8)) (action None) ∷
     -- DSP status at 5,000,000,000; check at 6,999,999,999: nothing
     trial (outcome (polled waiting 6_999_999_999).outcome) (outcome (Ok None)) ∷
     -- at 7,000,000,000: DevInfoReq

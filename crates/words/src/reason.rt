@@ -39,7 +39,8 @@ impl fmt::Display for Reason {
         f.write_str(match self {
             Reason::Expected(name) => return write!(f, "{name} expected"),
             Reason::UnknownCall => "unknown call: docs/REPLAY.md names them all",
-            Reason::UnknownModel => "unknown model: Mevo or Xi expected",
+            Reason::UnknownModel =>
+                "unknown model: Mevo, Xi or Rig expected, or the facts of another, as no/yes/yes",
             Reason::UnknownSource => "unknown source: App, Pi, Avr or Dsp expected",
             Reason::UnknownKind => {
                 "unknown kind: docs/REPLAY.md names them all, and capitals count"

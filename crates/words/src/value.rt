@@ -140,13 +140,29 @@ impl Value for f64 {
     }
 }
 
+// A model that no unit has.
+fn other(camera: bool, factory_cal: bool, power_mode: bool) -> DeviceModel {
+    DeviceModel {
+        camera,
+        factory_cal,
+        power_mode,
+    }
+}
+
+// Each model has one spelling: its name, or for those that no unit has whether there are a camera, a factory calibration and a power mode.
 impl Value for DeviceModel {
     fn read(word: &[u8]) -> Result<DeviceModel, Reason> {
-        match word {
-            b"Mevo" => Ok(DeviceModel::Mevo),
-            b"Xi" => Ok(DeviceModel::Xi),
-            _ => Err(Reason::UnknownModel),
-        }
+        Ok(match word {
+            b"Mevo" => DeviceModel::MEVO,
+            b"Xi" => DeviceModel::XI,
+            b"Rig" => DeviceModel::RIG,
+            b"no/no/no" => other(false, false, false),
+            b"no/yes/yes" => other(false, true, true),
+            b"yes/no/no" => other(true, false, false),
+            b"yes/no/yes" => other(true, false, true),
+            b"yes/yes/yes" => other(true, true, true),
+            _ => return Err(Reason::UnknownModel),
+        })
     }
 }
 

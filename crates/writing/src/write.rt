@@ -22,15 +22,22 @@ impl fmt::Display for Source {
     }
 }
 
-// A model as it is written: its name. A struct, as `Source` is.
+// A model as it is written: its name, or the three facts of one that no unit has. A struct, as `Source` is.
 #[derive(Clone, Copy)]
 pub struct Model(pub DeviceModel);
 
 impl fmt::Display for Model {
     fn fmt<W: fmt::Write>(&self, f: &mut fmt::Formatter<W>) -> fmt::Result {
-        f.write_str(match self.0 {
-            DeviceModel::Mevo => "Mevo",
-            DeviceModel::Xi => "Xi",
+        let model = self.0;
+        f.write_str(match (model.camera, model.factory_cal, model.power_mode) {
+            (true, true, false) => "Mevo",
+            (false, false, true) => "Xi",
+            (false, true, false) => "Rig",
+            (false, false, false) => "no/no/no",
+            (false, true, true) => "no/yes/yes",
+            (true, false, false) => "yes/no/no",
+            (true, false, true) => "yes/no/yes",
+            (true, true, true) => "yes/yes/yes",
         })
     }
 }
