@@ -51,10 +51,11 @@ impl ArmSequencer {
         Self::begun(&ffi::wigtalom_arm_new())
     }
 
-    /// An arm of this model, and what to send first.
+    /// An arm of this model, which waits for the Pi where there is a camera,
+    /// and what to send first.
     #[must_use]
     pub fn new_for(model: DeviceModel) -> (Self, Vec<Action>) {
-        Self::begun(&ffi::wigtalom_arm_new_for(model.number()))
+        Self::begun(&ffi::wigtalom_arm_new_for(model))
     }
 
     fn begun(begun: &CArmFed) -> (Self, Vec<Action>) {

@@ -24,11 +24,12 @@ pub struct AvrSync {
     pub dev_info: DevInfoResp,
     /// The radar configuration.
     pub config: ConfigResp,
-    /// Factory calibration, if it came in time.
+    /// Factory calibration, if the model has one and it came in time.
     pub factory_cal: Option<CalDataResp>,
     /// IF calibration, if it came in time.
     pub if_cal: Option<CalParamResp>,
-    /// The AVR's hardware configuration; `None` on a Xi, which isn't asked.
+    /// The AVR's hardware configuration; `None` of a model without factory
+    /// calibration and settings query, which isn't asked.
     pub avr_config: Option<AvrConfigResp>,
 }
 
@@ -72,7 +73,7 @@ impl AvrSequencer {
     /// ```
     /// #![allow(deprecated)]
     /// let (avr, _) = wigtalom::AvrSequencer::new();
-    /// assert_eq!(avr.state().model, wigtalom::DeviceModel::Mevo);
+    /// assert_eq!(avr.state().model, wigtalom::DeviceModel::MEVO);
     /// ```
     #[deprecated(
         note = "takes a Mevo without asking: use `new_for(result.model)` with the model that the DSP's result names"
@@ -85,7 +86,7 @@ impl AvrSequencer {
     /// A start-up of this model, and what to send first.
     #[must_use]
     pub fn new_for(model: DeviceModel) -> (Self, Vec<Action>) {
-        Self::begun(&ffi::wigtalom_avr_new_for(model.number()))
+        Self::begun(&ffi::wigtalom_avr_new_for(model))
     }
 
     fn begun(begun: &CAvrFed) -> (Self, Vec<Action>) {
@@ -144,7 +145,7 @@ impl AvrSequencer {
         let (c, r) = (&self.0, &self.0.replies);
         AvrState {
             step: steps::name(steps::AVR, c.step),
-            model: DeviceModel::of_number(c.model),
+            model: c.model,
             status: r.status.some.then_some(r.status.value),
             dev_info: r.dev_info.some.then(|| r.dev_info.value.value()),
             config: r.config.some.then_some(r.config.value),

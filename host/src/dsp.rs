@@ -28,7 +28,8 @@ pub struct DspSync {
     pub config: ConfigResp,
     /// The model that the device info names.
     pub model: DeviceModel,
-    /// Xi only: the power-mode write wasn't answered in time.
+    /// The power-mode write, of a model that has the step, wasn't answered in
+    /// time.
     pub power_mode_unanswered: bool,
 }
 
@@ -91,7 +92,7 @@ impl DspSequencer {
         Ok(sends)
     }
 
-    /// The nack with which a Xi's DSP refused the power-mode write, once.
+    /// The nack with which the DSP refused the power-mode write, once.
     #[must_use]
     pub fn take_refused(&mut self) -> Option<Envelope> {
         let taken = ffi::wigtalom_dsp_take_refused(self.0);
@@ -144,7 +145,7 @@ fn sync(sync: &CDspSync) -> DspSync {
         dev_info: sync.dev_info.value(),
         prod_info: prod_info(&sync.prod_info),
         config: sync.config,
-        model: DeviceModel::of_number(sync.model),
+        model: sync.model,
         power_mode_unanswered: sync.power_mode_unanswered,
     }
 }

@@ -1,6 +1,7 @@
 //! The functions of the library, as crates/host/src has them. The only file
 //! with `unsafe`.
 
+use crate::device::DeviceModel;
 use crate::message::RadarCal;
 use crate::records::{
     CArm, CArmFed, CAvr, CAvrConfig, CAvrConfigFed, CAvrFed, CAvrFinished, CDisarm, CDisarmFed,
@@ -10,9 +11,9 @@ use crate::records::{
 
 // SAFETY: the signatures and layouts are those of crates/host/src. A `safe fn` takes values alone.
 unsafe extern "C" {
-    pub safe fn wigtalom_result_ack(model: u8, src: u8, type_id: u8) -> CSent;
-    pub safe fn wigtalom_keepalive(model: u8) -> CKeepalive;
-    fn wigtalom_model(payload: *const u8, payload_len: usize) -> u8;
+    pub safe fn wigtalom_result_ack(model: DeviceModel, src: u8, type_id: u8) -> CSent;
+    pub safe fn wigtalom_keepalive(model: DeviceModel) -> CKeepalive;
+    fn wigtalom_model(payload: *const u8, payload_len: usize) -> DeviceModel;
 
     pub safe fn wigtalom_dsp_new() -> CDspFed;
     pub safe fn wigtalom_dsp_check(seq: CDsp, now: u64) -> CDspFed;
@@ -29,7 +30,7 @@ unsafe extern "C" {
     ) -> CDspFed;
 
     pub safe fn wigtalom_avr_new() -> CAvrFed;
-    pub safe fn wigtalom_avr_new_for(model: u8) -> CAvrFed;
+    pub safe fn wigtalom_avr_new_for(model: DeviceModel) -> CAvrFed;
     pub safe fn wigtalom_avr_check(seq: CAvr, now: u64) -> CAvrFed;
     pub safe fn wigtalom_avr_result(seq: CAvr) -> CAvrFinished;
     fn wigtalom_avr_feed(
@@ -73,7 +74,7 @@ unsafe extern "C" {
     ) -> CAvrConfigFed;
 
     pub safe fn wigtalom_arm_new() -> CArmFed;
-    pub safe fn wigtalom_arm_new_for(model: u8) -> CArmFed;
+    pub safe fn wigtalom_arm_new_for(model: DeviceModel) -> CArmFed;
     pub safe fn wigtalom_arm_retries(seq: CArm) -> CRetries;
     fn wigtalom_arm_feed(
         seq: CArm,
@@ -103,7 +104,7 @@ pub struct Lent<'a> {
     pub payload: &'a [u8],
 }
 
-pub fn model(payload: &[u8]) -> u8 {
+pub fn model(payload: &[u8]) -> DeviceModel {
     // SAFETY: pointer and length are those of a slice.
     unsafe { wigtalom_model(payload.as_ptr(), payload.len()) }
 }

@@ -3,6 +3,7 @@
 //! such a state, so the library is called as C would.
 
 use crate::BusAddr;
+use crate::device::DeviceModel;
 use crate::ffi::{self, Lent};
 use crate::message::{ConfigAck, Envelope, Message};
 use crate::records::{CArm, CAvr, CAvrConfig, CDsp, CPi};
@@ -10,6 +11,12 @@ use crate::settings::AvrSettings;
 
 const TEXT_TOO_LONG: u8 = 1;
 const READING_TOO_LARGE: u8 = 3;
+
+/// Facts that no device info gives.
+const MODEL: DeviceModel = DeviceModel {
+    camera: true,
+    ..DeviceModel::XI
+};
 
 /// Holds an answer to this refusal, no send and the same state.
 macro_rules! refused {
@@ -45,7 +52,7 @@ fn dsp() -> CDsp {
 }
 
 fn avr() -> CAvr {
-    let mut seq = ffi::wigtalom_avr_new().seq;
+    let mut seq = ffi::wigtalom_avr_new_for(MODEL).seq;
     seq.repoll_at.value = 5;
     seq.replies.if_cal.value.len = 3;
     seq
@@ -98,7 +105,8 @@ fn not_by_an_accepted_call() {
     let fed = ffi::dsp_feed(dsp(), &lent, 0);
     assert_eq!((fed.refusal, fed.seq), (0, ffi::wigtalom_dsp_new().seq));
     let fed = ffi::avr_feed(avr(), &lent, 0, 0);
-    assert_eq!((fed.refusal, fed.seq), (0, ffi::wigtalom_avr_new().seq));
+    let new = ffi::wigtalom_avr_new_for(MODEL).seq;
+    assert_eq!((fed.refusal, fed.seq, new.model), (0, new, MODEL));
     let fed = ffi::pi_feed(pi(), &lent);
     assert_eq!((fed.refusal, fed.seq), (0, ffi::wigtalom_pi_new().seq));
     let fed = ffi::arm_feed(arm(), &lent);

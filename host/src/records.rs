@@ -4,6 +4,7 @@
 
 use std::fmt;
 
+use crate::device::DeviceModel;
 use crate::message::{
     AvrStatus, CamConfig, ConfigAck, ConfigResp, DspQueryResp, DspStatus80, ModeSet, RadarCal,
 };
@@ -133,7 +134,6 @@ records! {
     }
 
     CKeepalive {
-        refusal: u8,
         actions: [CAction; 3],
     }
 }
@@ -213,7 +213,7 @@ records! {
         dev_info: CDevInfoResp,
         prod_info: [Stored; 3],
         config: ConfigResp,
-        model: u8,
+        model: DeviceModel,
         power_mode_unanswered: bool,
     }
 
@@ -247,7 +247,7 @@ records! {
 
     CAvr {
         step: u8,
-        model: u8,
+        model: DeviceModel,
         replies: CAvrReplies,
         cal_deadline: COptionInstant,
         repoll_at: COptionInstant,

@@ -3,6 +3,7 @@
 //! would.
 
 use crate::BusAddr;
+use crate::device::DeviceModel;
 use crate::ffi::{self, Lent};
 use crate::message::{AvrStatus, ConfigAck, DspStatus, DspStatus46, Envelope, Message};
 use crate::records::{CAvr, CDsp, CEnvelope, CParamValue, CSettings};
@@ -167,13 +168,9 @@ fn of_a_dsp_start_up() {
 
 #[test]
 fn of_an_avr_start_up() {
-    let new = avr();
-    let begun = ffi::wigtalom_avr_new_for(2);
-    assert_eq!((begun.refusal, begun.action.some), (UNKNOWN, false));
-    let (mut step, mut model) = (new, new);
-    step.step = 13;
-    model.model = 2;
-    for seq in [step, model, begun.seq] {
+    for step in [13, 255] {
+        let mut seq = avr();
+        seq.step = step;
         declined!(ffi::avr_feed(seq, &ack(), 7, 7), seq);
         declined!(ffi::wigtalom_avr_check(seq, 7), seq);
         assert_eq!(ffi::wigtalom_avr_result(seq).refusal, UNKNOWN);
@@ -193,11 +190,9 @@ fn of_a_pi_start_up_and_a_disarm() {
 
 #[test]
 fn of_an_arm() {
-    let begun = ffi::wigtalom_arm_new_for(255);
-    assert_eq!((begun.refusal, begun.action.some), (UNKNOWN, false));
-    let mut arm = ffi::wigtalom_arm_new().seq;
-    arm.step.number = 5;
-    for seq in [arm, begun.seq] {
+    for number in [5, 255] {
+        let mut seq = ffi::wigtalom_arm_new().seq;
+        seq.step.number = number;
         declined!(ffi::arm_feed(seq, &ack()), seq);
         let asked = ffi::wigtalom_arm_retries(seq);
         assert_eq!((asked.refusal, asked.retries), (UNKNOWN, 0));
@@ -231,12 +226,11 @@ fn of_settings() {
 }
 
 #[test]
-fn of_single_sends() {
-    for (model, src) in [(2, 0x30), (1, 0x31), (255, 0)] {
-        let sent = ffi::wigtalom_result_ack(model, src, 0xE8);
-        assert_eq!((sent.refusal, sent.action.some), (UNKNOWN, false));
+fn of_a_result_acknowledgement() {
+    for model in [DeviceModel::XI, DeviceModel::MEVO] {
+        for src in [0, 0x31, 255] {
+            let sent = ffi::wigtalom_result_ack(model, src, 0xE8);
+            assert_eq!((sent.refusal, sent.action.some), (UNKNOWN, false));
+        }
     }
-    let polls = ffi::wigtalom_keepalive(2);
-    assert_eq!(polls.refusal, UNKNOWN);
-    assert!(polls.actions.iter().all(|action| !action.some));
 }

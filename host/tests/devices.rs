@@ -1,12 +1,13 @@
 //! The made-up devices through all six sequences. The sends that are
-//! expected are those of seq.rs, written from its text.
+//! expected are those of seq.rs, written from its text; the rig's, which
+//! seq.rs doesn't know, are a Mevo's without the Pi.
 
 mod made_up;
 
 use made_up::{Device, Made, avr_status, cam_config, factory_cal, if_cal, prod_info};
 use wigtalom::{
     Action, ArmSequencer, AvrConfigCmd, AvrConfigSequencer, AvrSequencer, AvrSettings, AvrSync,
-    BusAddr, CalDataReq, Command, ConfigAck, ConfigResp, DeviceModel, DisarmSequencer,
+    BusAddr, CalDataReq, Command, ConfigAck, ConfigResp, DevInfoResp, DeviceModel, DisarmSequencer,
     DspSequencer, DspSync, Envelope, Message, MevoSettings, ModeSet, NetConfigReq, ParamData,
     ParamReadReq, ParamValue, PiSequencer, PiSync, ProdInfoReq, RadarCal, StatusPoll, TimeSync,
     keepalive_actions, keepalive_actions_for, result_ack,
@@ -84,7 +85,7 @@ fn start_avr(device: &mut Device, model: DeviceModel) -> (Vec<Action>, AvrSync) 
     (sent, seq.into_result().unwrap())
 }
 
-/// A Xi answers the power-mode write; the others aren't sent it.
+/// The power-mode write is sent where the model has the step.
 fn dsp_sends(power_mode: bool) -> Vec<Action> {
     let mut commands = vec![poll(), Command::DspQuery, Command::DevInfoReq];
     commands.extend([prod(0x00), prod(0x08), prod(0x09), Command::ConfigQuery]);
@@ -95,7 +96,8 @@ fn dsp_sends(power_mode: bool) -> Vec<Action> {
 }
 
 fn dsp_result(device: &Device, model: DeviceModel) -> DspSync {
-    let hw_info = (model == DeviceModel::Mevo).then(|| device.hw_info());
+    // The Xi refuses the query.
+    let hw_info = (model != DeviceModel::XI).then(|| device.hw_info());
     DspSync {
         status: device.dsp_status(),
         hw_info,
@@ -110,16 +112,38 @@ fn dsp_result(device: &Device, model: DeviceModel) -> DspSync {
 #[test]
 fn dsp_start_ups() {
     let devices = [
-        (Made::Xi, DeviceModel::Xi),
-        (Made::Plus, DeviceModel::Mevo),
-        (Made::Gen2, DeviceModel::Mevo),
+        (Made::Xi, DeviceModel::XI),
+        (Made::Plus, DeviceModel::MEVO),
+        (Made::Gen2, DeviceModel::MEVO),
+        (Made::Rig, DeviceModel::RIG),
     ];
     for (made, model) in devices {
         let mut device = Device::new(made);
         let (sent, sync) = start_dsp(&mut device);
-        assert_eq!(sent, dsp_sends(model == DeviceModel::Xi));
+        assert_eq!(sent, dsp_sends(model.power_mode));
         assert_eq!(sync, dsp_result(&device, model));
         assert_eq!(DeviceModel::from_dev_info(&sync.dev_info), model);
+    }
+}
+
+/// A Xi's tag counts before a rig's, wherever they stand. The text isn't
+/// looked at.
+#[test]
+fn models_that_payloads_name() {
+    let payloads: [(&[u8], DeviceModel); 9] = [
+        (b"FS Xi", DeviceModel::XI),
+        (b"BAY RIG", DeviceModel::RIG),
+        (b"\0BAY BAY RIGS", DeviceModel::RIG),
+        (b"FS Xi BAY RIG", DeviceModel::XI),
+        (b"BAY RIG FS Xi", DeviceModel::XI),
+        (b"BAY RIG FS X", DeviceModel::RIG),
+        (b"BAY RI", DeviceModel::MEVO),
+        (b"bay rig BAYRIG", DeviceModel::MEVO),
+        (b"", DeviceModel::MEVO),
+    ];
+    for (payload, model) in payloads {
+        let (text, payload) = ("FS Xi BAY RIG".into(), payload.to_vec());
+        assert_eq!(DevInfoResp { text, payload }.model(), model);
     }
 }
 
@@ -157,7 +181,7 @@ fn a_xi_that_does_not_answer() {
     assert_eq!(seq.check_timeout(5 * SECOND), Ok(vec![]));
     let sync = seq.into_result().unwrap();
     assert!(sync.power_mode_unanswered);
-    assert_eq!((sync.hw_info, sync.model), (None, DeviceModel::Xi));
+    assert_eq!((sync.hw_info, sync.model), (None, DeviceModel::XI));
 }
 
 fn nack(src: BusAddr, acked_cmd: u8) -> Envelope {
@@ -186,7 +210,7 @@ fn a_xi_that_refuses_the_power_mode() {
 
 #[test]
 fn an_avr_that_refuses_its_poll() {
-    let (mut seq, first) = AvrSequencer::new_for(DeviceModel::Xi);
+    let (mut seq, first) = AvrSequencer::new_for(DeviceModel::XI);
     let refused = nack(BusAddr::Avr, 0x2A);
     assert_eq!(seq.feed(&refused, 5, WALL), Ok(vec![]));
     assert_eq!(seq.check_cal_timeout(SECOND + 4), Ok(vec![]));
@@ -194,26 +218,32 @@ fn an_avr_that_refuses_its_poll() {
     assert_eq!(seq.check_cal_timeout(9 * SECOND), Ok(vec![]));
 }
 
-/// Up to the configuration, which all have.
-fn avr_sends() -> Vec<Command> {
-    vec![
-        poll(),
-        poll(),
-        Command::DevInfoReq,
-        Command::DevInfoReq,
-        read(0x0C),
-        read(0x0D),
-        Command::ConfigQuery,
-    ]
+/// All have the IF calibration; the rest hangs on one fact.
+fn avr_sends(factory_cal: bool) -> Vec<Action> {
+    let mut commands = vec![poll(), poll(), Command::DevInfoReq, Command::DevInfoReq];
+    commands.extend([read(0x0C), read(0x0D), Command::ConfigQuery]);
+    if !factory_cal {
+        commands.push(Command::CalParamReq);
+        return to(BusAddr::Avr, commands);
+    }
+    commands.push(Command::CalDataReq(CalDataReq {
+        sub_cmd: 0x03,
+        payload: vec![0x09, 0x00, 0x00, 0x03, 0x00, 0x00, 0x00, 0x00, 0x00, 0xA5],
+    }));
+    commands.extend([Command::CalParamReq, Command::AvrConfigQuery, read(0x64)]);
+    commands.push(Command::TimeSync(TimeSync {
+        epoch: WALL as u32,
+        session: 0x00,
+        tail: [0x00, 0x01],
+    }));
+    to(BusAddr::Avr, commands)
 }
 
 #[test]
 fn avr_start_up_of_a_xi() {
     let mut device = Device::new(Made::Xi);
-    let (sent, sync) = start_avr(&mut device, DeviceModel::Xi);
-    let mut expected = avr_sends();
-    expected.push(Command::CalParamReq);
-    assert_eq!(sent, to(BusAddr::Avr, expected));
+    let (sent, sync) = start_avr(&mut device, DeviceModel::XI);
+    assert_eq!(sent, avr_sends(false));
     let result = AvrSync {
         status: avr_status(),
         dev_info: device.dev_info(BusAddr::Avr),
@@ -229,19 +259,8 @@ fn avr_start_up_of_a_xi() {
 fn avr_start_ups_of_mevos() {
     for made in [Made::Plus, Made::Gen2] {
         let mut device = Device::new(made);
-        let (sent, sync) = start_avr(&mut device, DeviceModel::Mevo);
-        let mut expected = avr_sends();
-        expected.push(Command::CalDataReq(CalDataReq {
-            sub_cmd: 0x03,
-            payload: vec![0x09, 0x00, 0x00, 0x03, 0x00, 0x00, 0x00, 0x00, 0x00, 0xA5],
-        }));
-        expected.extend([Command::CalParamReq, Command::AvrConfigQuery, read(0x64)]);
-        expected.push(Command::TimeSync(TimeSync {
-            epoch: WALL as u32,
-            session: 0x00,
-            tail: [0x00, 0x01],
-        }));
-        assert_eq!(sent, to(BusAddr::Avr, expected));
+        let (sent, sync) = start_avr(&mut device, DeviceModel::MEVO);
+        assert_eq!(sent, avr_sends(true));
         assert_eq!(sync.status, avr_status());
         assert_eq!(sync.dev_info, device.dev_info(BusAddr::Avr));
         assert_eq!(sync.factory_cal, Some(factory_cal()));
@@ -307,27 +326,38 @@ fn settings_of_mevos() {
 
 #[test]
 fn a_mode_change_of_each() {
-    for made in [Made::Xi, Made::Plus, Made::Gen2] {
+    for made in [Made::Xi, Made::Plus, Made::Gen2, Made::Rig] {
         let sent = configure(&mut Device::new(made), AvrSettings::mode_only(8));
         let mode = Command::ModeSet(ModeSet { mode: 8 });
         assert_eq!(sent, to(BusAddr::Avr, [gate(), mode, gate()]));
     }
 }
 
+/// The Pi is polled, and waited for, where there is a camera.
+fn arm_sends(camera: bool) -> Vec<Action> {
+    let mut expected = to(BusAddr::Dsp, [poll()]);
+    let arm = Command::AvrConfigCmd(AvrConfigCmd { arm: true });
+    expected.extend(to(BusAddr::Avr, [poll(), arm]));
+    if camera {
+        expected.extend(to(BusAddr::Pi, [poll_pi()]));
+    }
+    expected
+}
+
 #[test]
 fn arms_and_disarms() {
-    for made in [Made::Xi, Made::Plus, Made::Gen2] {
+    let devices = [
+        (Made::Xi, false),
+        (Made::Plus, true),
+        (Made::Gen2, true),
+        (Made::Rig, false),
+    ];
+    for (made, camera) in devices {
         let mut device = Device::new(made);
         let (_, result) = start_dsp(&mut device);
         let (mut seq, first) = ArmSequencer::new_for(result.model);
         let sent = drive(&mut device, first, |env| seq.feed(env).unwrap());
-        let mut expected = to(BusAddr::Dsp, [poll()]);
-        let arm = Command::AvrConfigCmd(AvrConfigCmd { arm: true });
-        expected.extend(to(BusAddr::Avr, [poll(), arm]));
-        if made != Made::Xi {
-            expected.extend(to(BusAddr::Pi, [poll_pi()]));
-        }
-        assert_eq!(sent, expected);
+        assert_eq!(sent, arm_sends(camera));
         assert!(seq.is_complete());
         assert_eq!(seq.retries(), 0);
 
@@ -338,35 +368,108 @@ fn arms_and_disarms() {
     }
 }
 
+/// What keeps the connection alive, with a camera and without.
+fn polls(camera: bool) -> Vec<Action> {
+    let mut polls = to(BusAddr::Dsp, [poll()]);
+    polls.extend(to(BusAddr::Avr, [poll()]));
+    if camera {
+        polls.extend(to(BusAddr::Pi, [poll_pi()]));
+    }
+    polls
+}
+
+/// What acknowledges a message without bytes.
+fn ack(model: DeviceModel, src: BusAddr, type_id: u8) -> Option<Action> {
+    let message = Message::Other;
+    let env = Envelope {
+        src,
+        type_id,
+        message,
+    };
+    result_ack(model, &env)
+}
+
 #[test]
 fn single_sends() {
-    let polls = [
-        to(BusAddr::Dsp, [poll()]),
-        to(BusAddr::Avr, [poll()]),
-        to(BusAddr::Pi, [poll_pi()]),
-    ]
-    .concat();
-    assert_eq!(keepalive_actions(), polls);
-    assert_eq!(keepalive_actions_for(DeviceModel::Mevo), polls);
-    assert_eq!(keepalive_actions_for(DeviceModel::Xi), polls[..2]);
-    let ack = |model, src, type_id| {
-        let message = Message::Other;
-        let env = Envelope {
-            src,
-            type_id,
-            message,
-        };
-        result_ack(model, &env)
-    };
+    assert_eq!(keepalive_actions(), polls(true));
+    assert_eq!(keepalive_actions_for(DeviceModel::MEVO), polls(true));
+    assert_eq!(keepalive_actions_for(DeviceModel::XI), polls(false));
     for type_id in [0xD4, 0xE8] {
         let command = Command::ConfigAck(ConfigAck {
             bus_addr: 0x10,
             acked_cmd: type_id & 0x7F,
         });
         let sent = Some(Action::Send(command, BusAddr::Avr));
-        assert_eq!(ack(DeviceModel::Xi, BusAddr::Avr, type_id), sent);
-        assert_eq!(ack(DeviceModel::Mevo, BusAddr::Avr, type_id), None);
-        assert_eq!(ack(DeviceModel::Xi, BusAddr::Dsp, type_id), None);
+        assert_eq!(ack(DeviceModel::XI, BusAddr::Avr, type_id), sent);
+        assert_eq!(ack(DeviceModel::MEVO, BusAddr::Avr, type_id), None);
+        assert_eq!(ack(DeviceModel::XI, BusAddr::Dsp, type_id), None);
     }
-    assert_eq!(ack(DeviceModel::Xi, BusAddr::Avr, 0xED), None);
+    assert_eq!(ack(DeviceModel::XI, BusAddr::Avr, 0xED), None);
+}
+
+/// A rig through everything, by the model that its DSP names.
+#[test]
+fn a_rig() {
+    let mut device = Device::new(Made::Rig);
+    let (sent, DspSync { model, .. }) = start_dsp(&mut device);
+    assert_eq!((sent.len(), model), (7, DeviceModel::RIG));
+    assert_eq!(sent, dsp_sends(false));
+    let (sent, sync) = start_avr(&mut device, model);
+    assert_eq!(sent.len(), 12);
+    assert_eq!(sent, avr_sends(true));
+    assert_eq!(sync.factory_cal, Some(factory_cal()));
+    assert_eq!(sync.avr_config, Some(device.avr_config()));
+    let (mut seq, first) = ArmSequencer::new_for(model);
+    let sent = drive(&mut device, first, |env| seq.feed(env).unwrap());
+    assert_eq!(sent, arm_sends(false));
+    assert!(seq.is_complete());
+    assert_eq!(keepalive_actions_for(model), polls(false));
+    for type_id in [0xD4, 0xE8] {
+        assert_eq!(ack(model, BusAddr::Avr, type_id), None);
+    }
+    // It has no Pi that would answer.
+    let (mut seq, first) = PiSequencer::new();
+    let sent = drive(&mut device, first.clone(), |env| seq.feed(env).unwrap());
+    assert_eq!((sent, seq.is_complete()), (first, false));
+}
+
+/// All eight combinations, each by its facts. The unit answers everything.
+#[test]
+fn every_model_by_its_facts() {
+    let facts = |bits: u8| DeviceModel {
+        camera: bits & 1 != 0,
+        factory_cal: bits & 2 != 0,
+        power_mode: bits & 4 != 0,
+    };
+    let mut acknowledged = Vec::new();
+    for model in (0..8).map(facts) {
+        assert_eq!(keepalive_actions_for(model), polls(model.camera));
+
+        let mut device = Device::new(Made::Plus);
+        assert_eq!(AvrSequencer::new_for(model).0.state().model, model);
+        let (sent, sync) = start_avr(&mut device, model);
+        assert_eq!(sent.len(), if model.factory_cal { 12 } else { 8 });
+        assert_eq!(sent, avr_sends(model.factory_cal));
+        assert_eq!(sync.factory_cal.is_some(), model.factory_cal);
+        assert_eq!(sync.avr_config.is_some(), model.factory_cal);
+        assert!(sync.if_cal.is_some());
+
+        let (mut seq, first) = ArmSequencer::new_for(model);
+        assert_eq!(seq.state().wait_pi, model.camera);
+        let sent = drive(&mut device, first, |env| seq.feed(env).unwrap());
+        assert_eq!((sent, seq.is_complete()), (arm_sends(model.camera), true));
+        // Of a unit without a Pi.
+        let mut device = Device::new(Made::Rig);
+        let (mut seq, first) = ArmSequencer::new_for(model);
+        let sent = drive(&mut device, first, |env| seq.feed(env).unwrap());
+        assert_eq!(sent, arm_sends(model.camera));
+        assert_eq!(seq.is_complete(), !model.camera);
+
+        let acks = [0xD4, 0xE8].map(|type_id| ack(model, BusAddr::Avr, type_id).is_some());
+        assert_eq!(acks, [model.is_xi(); 2]);
+        if model.is_xi() {
+            acknowledged.push((model.camera, model.factory_cal, model.power_mode));
+        }
+    }
+    assert_eq!(acknowledged, [(false, false, true)]);
 }

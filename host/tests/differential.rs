@@ -143,6 +143,23 @@ fn a_flipped_bit_of_a_nan_is_noticed() {
 }
 
 #[test]
+fn a_wrong_fact_of_a_model_is_noticed() {
+    fn wrong(fields: &mut Fields, fact: &str) {
+        for (name, value) in &mut fields.list {
+            match value {
+                Value::Number(has) if *name == fact => *has ^= 1,
+                _ => {}
+            }
+        }
+    }
+    for which in [Which::Dsp, Which::Avr] {
+        must_differ(which, |f| wrong(f, "camera"), "camera");
+        must_differ(which, |f| wrong(f, "factory_cal"), "factory_cal");
+        must_differ(which, |f| wrong(f, "power_mode"), "power_mode");
+    }
+}
+
+#[test]
 fn a_lost_send_and_a_wrong_number_are_noticed() {
     let lost = |f: &mut Fields| f.list.retain(|(name, _)| *name != "command");
     must_differ(Which::Arm, lost, "command");

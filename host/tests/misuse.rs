@@ -47,10 +47,10 @@ fn all_refuse(env: &Envelope, refusal: Refusal) {
         }};
     }
     refuses!(DspSequencer::new(), 1);
-    refuses!(AvrSequencer::new_for(DeviceModel::Mevo), 1, 1);
+    refuses!(AvrSequencer::new_for(DeviceModel::MEVO), 1, 1);
     refuses!(PiSequencer::new());
     refuses!(AvrConfigSequencer::new(AvrSettings::mode_only(9)).unwrap());
-    refuses!(ArmSequencer::new_for(DeviceModel::Mevo));
+    refuses!(ArmSequencer::new_for(DeviceModel::MEVO));
     refuses!(DisarmSequencer::new());
 }
 
@@ -76,7 +76,7 @@ fn a_payload_over_256_bytes() {
 #[test]
 fn a_reading_too_large() {
     let (mut dsp, _) = DspSequencer::new();
-    let (mut avr, _) = AvrSequencer::new_for(DeviceModel::Mevo);
+    let (mut avr, _) = AvrSequencer::new_for(DeviceModel::MEVO);
     let (fresh_dsp, fresh_avr) = (dsp.state(), avr.state());
     for now in [LAST_READING + 1, u64::MAX] {
         let refused = Err(Refusal::ReadingTooLarge);
@@ -123,7 +123,7 @@ fn a_reading_that_goes_back() {
     assert_eq!(dsp.state(), before);
     assert_eq!(dsp.check_timeout(1_000), Ok(vec![]));
 
-    let (mut avr, _) = AvrSequencer::new_for(DeviceModel::Mevo);
+    let (mut avr, _) = AvrSequencer::new_for(DeviceModel::MEVO);
     avr.check_cal_timeout(5).unwrap();
     let before = avr.state();
     assert_eq!(avr.feed(&dsp_status(), 4, 0), refused);
@@ -134,7 +134,7 @@ fn a_reading_that_goes_back() {
 #[test]
 fn an_early_result() {
     let (dsp, _) = DspSequencer::new();
-    let (avr, _) = AvrSequencer::new_for(DeviceModel::Mevo);
+    let (avr, _) = AvrSequencer::new_for(DeviceModel::MEVO);
     let (pi, _) = PiSequencer::new();
     assert_eq!(dsp.into_result().unwrap_err(), Refusal::NotDone);
     assert_eq!(avr.into_result().unwrap_err(), Refusal::NotDone);
@@ -148,7 +148,7 @@ fn the_65536th_nack_of_an_arm() {
     let nack = env(BusAddr::Avr, Message::ConfigNack(ConfigAck::default()));
     let ack = env(BusAddr::Avr, Message::ConfigAck(ConfigAck::default()));
     let avr_status = env(BusAddr::Avr, Message::AvrStatus(AvrStatus::default()));
-    let (mut seq, _) = ArmSequencer::new_for(DeviceModel::Mevo);
+    let (mut seq, _) = ArmSequencer::new_for(DeviceModel::MEVO);
     for count in 0..=u16::MAX {
         assert_eq!(seq.retries(), count);
         seq.feed(&dsp_status()).unwrap();

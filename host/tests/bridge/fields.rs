@@ -1,6 +1,7 @@
 //! What is compared: named values, in order. The same names come from the
 //! records of both sides.
 
+use super::over::Over;
 use super::rust;
 
 /// Named values, in order.
@@ -206,8 +207,6 @@ enums! {
     wigtalom::ParamData { Int24 Float40; }
     rust::DspStatus { V80 V46; }
     wigtalom::DspStatus { V80 V46; }
-    rust::DeviceModel { ; Mevo Xi }
-    wigtalom::DeviceModel { ; Mevo Xi }
     rust::BusAddr { ; App Pi Avr Dsp }
     wigtalom::BusAddr { ; App Pi Avr Dsp }
     rust::Message { ConfigNack; }
@@ -221,6 +220,19 @@ enums! {
         StatusPoll ModeSet AvrConfigCmd ParamReadReq ParamValue RadarCal ProdInfoReq NetConfigReq
         CalDataReq TimeSync ConfigAck;
         DspQuery ConfigQuery AvrConfigQuery DevInfoReq CalParamReq CamConfigReq
+    }
+}
+
+/// By its facts. The Rust has a name, which stands for three.
+impl Compared for wigtalom::DeviceModel {
+    fn put(&self, _: &'static str, to: &mut Fields) {
+        put!(to, self: camera, factory_cal, power_mode);
+    }
+}
+
+impl Compared for rust::DeviceModel {
+    fn put(&self, name: &'static str, to: &mut Fields) {
+        self.over().put(name, to);
     }
 }
 

@@ -68,8 +68,8 @@ impl Over for rust::DeviceModel {
 
     fn over(&self) -> wigtalom::DeviceModel {
         match self {
-            rust::DeviceModel::Xi => wigtalom::DeviceModel::Xi,
-            _ => wigtalom::DeviceModel::Mevo,
+            rust::DeviceModel::Xi => wigtalom::DeviceModel::XI,
+            _ => wigtalom::DeviceModel::MEVO,
         }
     }
 }

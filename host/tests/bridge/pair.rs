@@ -3,6 +3,7 @@
 use std::time::{Duration, Instant, SystemTime, UNIX_EPOCH};
 
 use oracle::list::{Begin, Call, Feed, Settings, Which};
+use oracle::model::Model;
 use oracle::refusal;
 use oracle::running::View;
 
@@ -188,6 +189,11 @@ fn wall(seconds: u64) -> SystemTime {
     UNIX_EPOCH + Duration::from_secs(seconds & (u64::MAX >> 1))
 }
 
+/// The Rust's model of these facts. The generator gives no others.
+fn named(model: Model) -> rust::DeviceModel {
+    model.rust().expect("a Mevo's or a Xi's facts")
+}
+
 /// Begins a sequence on both sides. Where a list gives no model, by the very
 /// `new` that takes a Mevo.
 #[allow(deprecated)]
@@ -195,6 +201,7 @@ pub fn begin(begin: &Begin, to: &mut Answers) -> Box<dyn Running> {
     match begin {
         Begin::Dsp => Pair::begin(rust::DspSequencer::new(), wigtalom::DspSequencer::new(), to),
         Begin::Avr(model) => {
+            let model = model.map(named);
             let theirs = model.map_or_else(rust::AvrSequencer::new, rust::AvrSequencer::new_for);
             let model = model.map(|model| model.over());
             let new_for = wigtalom::AvrSequencer::new_for;
@@ -209,6 +216,7 @@ pub fn begin(begin: &Begin, to: &mut Answers) -> Box<dyn Running> {
             to,
         ),
         Begin::Arm(model) => {
+            let model = model.map(named);
             let theirs = model.map_or_else(rust::ArmSequencer::new, rust::ArmSequencer::new_for);
             let model = model.map(|model| model.over());
             let new_for = wigtalom::ArmSequencer::new_for;
@@ -262,8 +270,9 @@ pub fn aside(call: &Call, to: &mut Answers) {
             type_id,
         } => {
             let env = other(*src, *type_id);
+            let model = named(*model);
             let ours = wigtalom::result_ack(model.over(), &env.over());
-            rust::result_ack(*model, &env).put("ack", &mut to.rust);
+            rust::result_ack(model, &env).put("ack", &mut to.rust);
             ours.put("ack", &mut to.ours);
         }
         Call::Keepalive { model: None } => {
@@ -271,8 +280,9 @@ pub fn aside(call: &Call, to: &mut Answers) {
             wigtalom::keepalive_actions().put("polls", &mut to.ours);
         }
         Call::Keepalive { model: Some(model) } => {
+            let model = named(*model);
             let ours = wigtalom::keepalive_actions_for(model.over());
-            rust::keepalive_actions_for(*model).put("polls", &mut to.rust);
+            rust::keepalive_actions_for(model).put("polls", &mut to.rust);
             ours.put("polls", &mut to.ours);
         }
         Call::Model { payload } => {

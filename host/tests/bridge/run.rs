@@ -87,6 +87,7 @@ impl Run {
         if let Call::Begin(_) = call {
             self.lines.clear();
         }
+        assert!(!names_a_rig(&call), "the Rust knows no rig: {line}");
         let floats = self.floats.put_into(&mut call);
         self.lines.push((line, floats));
         self.call(&call)
@@ -149,6 +150,17 @@ impl Run {
         }
         report
     }
+}
+
+/// Whether a payload has the rig's tag, which the generator never makes.
+fn names_a_rig(call: &Call) -> bool {
+    const RIG_TAG: &[u8] = b"BAY RIG";
+    let payload = match call {
+        Call::Feed(feed) => &feed.payload,
+        Call::Model { payload } => payload,
+        _ => return false,
+    };
+    payload.windows(RIG_TAG.len()).any(|w| w == RIG_TAG)
 }
 
 fn nans(floats: &[u64]) -> u64 {

@@ -1,5 +1,7 @@
 //! The made-up devices of ironsight's src/testing/mod.rs: a Xi, a Mevo+ and
-//! a Mevo Gen2. Their frames stand here as they are decoded.
+//! a Mevo Gen2. Their frames stand here as they are decoded. Beside them a
+//! practice rig, which ironsight doesn't have: it speaks like a Mevo+, but
+//! has no Pi and names itself.
 
 use std::collections::VecDeque;
 
@@ -15,6 +17,7 @@ pub enum Made {
     Xi,
     Plus,
     Gen2,
+    Rig,
 }
 
 pub struct Device {
@@ -71,7 +74,7 @@ impl Device {
     pub fn take(&mut self, action: &Action) {
         let Action::Send(command, dest) = action;
         match (dest, command) {
-            (BusAddr::Pi, _) if self.made == Made::Xi => {}
+            (BusAddr::Pi, _) if matches!(self.made, Made::Xi | Made::Rig) => {}
             (_, Command::StatusPoll(_)) => self.status(*dest),
             (BusAddr::Avr, Command::AvrConfigCmd(c)) => self.gate(c.arm),
             (_, Command::DevInfoReq) => {
@@ -102,7 +105,7 @@ impl Device {
 
     pub fn dsp_status(&self) -> DspStatus {
         let mut payload = match self.made {
-            Made::Plus => return DspStatus::V80(mevo_plus_dsp_status()),
+            Made::Plus | Made::Rig => return DspStatus::V80(mevo_plus_dsp_status()),
             Made::Gen2 => vec![0; 71],
             Made::Xi => vec![0; 29],
         };
@@ -121,10 +124,13 @@ impl Device {
     pub fn dev_info(&self, dest: BusAddr) -> DevInfoResp {
         match (dest, self.made) {
             (BusAddr::Dsp, Made::Xi) => xi_dsp_dev_info(),
+            (BusAddr::Dsp, Made::Rig) => dev_info(76, ["1.00", "TEST-SERIAL-01", "BAY RIG"]),
             (BusAddr::Dsp, _) => dev_info(76, ["1.00", "TEST-SERIAL-01", "FAKE"]),
             (BusAddr::Pi, _) => dev_info(75, ["2.00", "Jan  1 2021", "12:00:00"]),
             (_, Made::Xi) => dev_info(75, ["3.18    FSCOPE", "Jan  1 2020", "12:00:00"]),
-            (_, Made::Plus) => dev_info(75, ["1.23    FSCOPE", "Feb  3 2024", "12:00:00"]),
+            (_, Made::Plus | Made::Rig) => {
+                dev_info(75, ["1.23    FSCOPE", "Feb  3 2024", "12:00:00"])
+            }
             (_, Made::Gen2) => dev_info(75, ["4.56    FSCOPE", "Feb  3 2024", "12:00:00"]),
         }
     }
