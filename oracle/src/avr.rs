@@ -16,7 +16,7 @@ impl Sequencer for AvrSequencer {
         Step::plain(inspect::avr(self).step)
     }
 
-    /// A Xi has no 8, and none after 9.
+    /// Without the factory calibration there is no 8, and none after 9.
     fn awaits(&self) -> Option<usize> {
         Some(match inspect::avr(self).step {
             "WaitStatus1" => 1,

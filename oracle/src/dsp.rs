@@ -4,6 +4,7 @@ use std::time::Instant;
 
 use crate::conn::Envelope;
 use crate::list::Which;
+use crate::model::Model;
 use crate::protocol::handshake::{DevInfoResp, DeviceModel};
 use crate::running::{Clock, Sequencer, Step, Waits};
 use crate::seq::inspect;
@@ -38,7 +39,7 @@ impl Sequencer for DspSequencer {
         }
     }
 
-    /// The one that a stored device info names.
+    /// The one that the Rust takes a stored device info for.
     fn model(&self) -> Option<DeviceModel> {
         inspect::dsp(self).dev_info.map(DevInfoResp::model)
     }
@@ -60,7 +61,8 @@ impl Sequencer for DspSequencer {
             write::bytes(out, "prod_info", info.text.as_bytes());
         }
         write::params(out, Some(&sync.config));
-        write::word(out, "model", sync.model.label());
+        let model = Model::of_payload(&sync.dev_info.payload);
+        write::word(out, "model", &model.spelled());
         let unanswered = sync.power_mode_unanswered;
         write::boolean(out, "power_mode_unanswered", unanswered);
     }

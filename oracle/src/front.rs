@@ -6,8 +6,8 @@ use std::time::Instant;
 use crate::addr::BusAddr;
 use crate::conn::Envelope;
 use crate::list::{self, Bad, Begin, Call};
+use crate::model::Model;
 use crate::protocol::Message;
-use crate::protocol::handshake::{DevInfoResp, DeviceModel};
 use crate::running::{Run, Running, Sequencer, View};
 use crate::seq::{self, Action};
 use crate::seq::{ArmSequencer, AvrSequencer, DisarmSequencer, DspSequencer, PiSequencer};
@@ -89,12 +89,14 @@ impl Front {
         self.running = Some(match begin {
             Begin::Dsp => begun(DspSequencer::new(), base, out),
             Begin::Avr(None) => begun(AvrSequencer::new(), base, out),
-            Begin::Avr(Some(model)) => begun(AvrSequencer::new_for(*model), base, out),
+            Begin::Avr(Some(model)) => {
+                begun(AvrSequencer::new_for(model.by_calibration()), base, out)
+            }
             Begin::Pi => begun(PiSequencer::new(), base, out),
             Begin::AvrConfig(settings) => Box::new(avr_config::begin(settings, base, out)),
             Begin::Disarm => begun(DisarmSequencer::new(), base, out),
             Begin::Arm(None) => begun(ArmSequencer::new(), base, out),
-            Begin::Arm(Some(model)) => begun(ArmSequencer::new_for(*model), base, out),
+            Begin::Arm(Some(model)) => begun(ArmSequencer::new_for(model.by_camera()), base, out),
         });
     }
 }
@@ -124,7 +126,7 @@ pub fn run(list: &mut dyn BufRead, to: &mut dyn Write, with_state: bool) -> io::
     to.flush()
 }
 
-fn ack(model: DeviceModel, src: BusAddr, type_id: u8, out: &mut String) {
+fn ack(model: Model, src: BusAddr, type_id: u8, out: &mut String) {
     let payload = Vec::new();
     let env = Envelope {
         src,
@@ -136,12 +138,12 @@ fn ack(model: DeviceModel, src: BusAddr, type_id: u8, out: &mut String) {
             payload,
         },
     };
-    write::send(out, seq::result_ack(model, &env).as_ref());
+    write::send(out, seq::result_ack(model.by_all(), &env).as_ref());
 }
 
-fn keepalive(model: Option<DeviceModel>, out: &mut String) {
+fn keepalive(model: Option<Model>, out: &mut String) {
     let actions = match model {
-        Some(model) => seq::keepalive_actions_for(model),
+        Some(model) => seq::keepalive_actions_for(model.by_camera()),
         None => seq::keepalive_actions(),
     };
     for i in 0..3 {
@@ -154,9 +156,5 @@ fn keepalive(model: Option<DeviceModel>, out: &mut String) {
 }
 
 fn model(payload: &[u8], out: &mut String) {
-    let info = DevInfoResp {
-        text: String::new(),
-        payload: payload.to_vec(),
-    };
-    out.push_str(info.model().label());
+    out.push_str(&Model::of_payload(payload).spelled());
 }

@@ -34,6 +34,7 @@ mod dsp;
 pub mod front;
 pub mod generate;
 pub mod list;
+pub mod model;
 pub mod papers;
 mod pi;
 pub mod refusal;

@@ -35,7 +35,7 @@ pub struct View {
     pub deadline: Option<u64>,
     /// The same, if that is sending a refused poll again.
     pub repoll: Option<u64>,
-    /// The model, as soon as it is known.
+    /// The model by which the Rust runs it, as soon as that is known.
     pub model: Option<DeviceModel>,
     /// What a settings run awaits back.
     pub echoes: Option<Echoes>,

@@ -2,10 +2,12 @@
 
 use std::cell::Cell;
 
-use oracle::compare::{LIST_LINES, LONG_ARM_CALLS, Source, front_answers, shrink};
+use oracle::compare::{LIST_LINES, LONG_ARM_CALLS, List, Source, front_answers, shrink};
 use oracle::coverage::Coverage;
-use oracle::generate::{LEANINGS, LONG_ARM, Leaning};
-use oracle::list::{self, Call, Which};
+use oracle::generate::{LEANINGS, LONG_ARM, Leaning, Random, device_info};
+use oracle::list::{self, Begin, Call, Which};
+use oracle::model::{Model, has};
+use oracle::protocol::handshake::DeviceModel;
 
 #[test]
 fn the_same_seed_gives_the_same_list() {
@@ -128,4 +130,60 @@ fn shrinking_comes_to_an_end() {
     };
     assert_eq!(shrink(lines.clone(), whole), lines);
     assert!(tried.get() < 200, "{}", tried.get());
+}
+
+/// The payloads of a list, and the models that it gives.
+fn payloads_and_models(list: &List) -> (Vec<Vec<u8>>, Vec<Model>) {
+    let (mut payloads, mut models) = (Vec::new(), Vec::new());
+    for line in &list.lines {
+        let read = [Which::Dsp, Which::Arm].map(|which| list::read(line.as_bytes(), Some(which)));
+        match read.into_iter().flatten().next() {
+            Some(Some(Call::Feed(feed))) => payloads.push(feed.payload),
+            Some(Some(Call::Model { payload })) => payloads.push(payload),
+            Some(Some(Call::Begin(Begin::Avr(model) | Begin::Arm(model)))) => models.extend(model),
+            Some(Some(Call::Keepalive { model })) => models.extend(model),
+            Some(Some(Call::Ack { model, .. })) => models.push(model),
+            _ => {}
+        }
+    }
+    (payloads, models)
+}
+
+/// Equality with the Rust speaks of no rig: no payload has its seven bytes,
+/// though some almost do, and only models that the Rust has are given.
+#[test]
+fn no_list_has_a_rig() {
+    let (mut payloads, mut given) = (Vec::new(), [0; 2]);
+    for leaning in LEANINGS {
+        let list = Source::new(2, leaning, true).list(usize::MAX, 10_000);
+        let (some, models) = payloads_and_models(&list);
+        payloads.extend(some);
+        for model in models {
+            assert!([Model::MEVO, Model::XI].contains(&model), "{model:?}");
+            given[usize::from(model == Model::XI)] += 1;
+        }
+    }
+    let holding = |tag: &[u8]| payloads.iter().filter(|p| has(p, tag)).count();
+    assert_eq!(holding(b"BAY RIG"), 0);
+    assert!(payloads.len() > 50_000, "{}", payloads.len());
+    for near in [&b"BAY RI"[..], b"BAYRIG", b"bay rig", b"FS X", b"FS Xi"] {
+        assert!(holding(near) > 100, "{near:?} {}", holding(near));
+    }
+    assert!(given[0] > 1_000 && given[1] > 1_000, "{given:?}");
+}
+
+/// Of many device infos, too, where what stands behind a near tag may end it.
+#[test]
+fn no_device_info_names_a_rig() {
+    let mut random = Random::new(1);
+    let (mut near, mut xis) = (0, 0);
+    for model in [DeviceModel::Mevo, DeviceModel::Xi] {
+        for _ in 0..50_000 {
+            let payload = device_info(&mut random, model);
+            assert!(!has(&payload, b"BAY RIG"));
+            near += u32::from(has(&payload, b"BAY RI"));
+            xis += u32::from(has(&payload, b"FS Xi"));
+        }
+    }
+    assert!(near > 5_000 && xis > 50_000, "{near} {xis}");
 }

@@ -5,7 +5,7 @@ mod common;
 
 use std::collections::BTreeSet;
 
-use common::{answers, message, repository};
+use common::{MODELS, answers, fact, message, repository};
 
 const SECOND: u64 = 1_000_000_000;
 
@@ -17,8 +17,17 @@ struct Arrow {
     entry: Option<u32>,
     /// What ticks it: a message with its source, or a check.
     tick: String,
-    model: Option<String>,
+    /// A fact that the model has or hasn't.
+    fact: Option<String>,
     send: String,
+}
+
+impl Arrow {
+    /// Whether a model of these facts has it.
+    fn has(&self, facts: &[bool; 3]) -> bool {
+        let is_so = |words: &String| fact(words, facts).expect(words) == (true, "");
+        self.fact.as_ref().is_none_or(is_so)
+    }
 }
 
 /// The arrows of a section's picture, the one from the beginning first.
@@ -36,11 +45,11 @@ fn arrow(line: &str) -> Arrow {
     let (ends, label) = line.trim().split_once(": ").unwrap();
     let (from, to) = ends.split_once(" --> ").unwrap();
     let (ticks, send) = label.rsplit_once(" / ").unwrap();
-    let (ticks, model) = match ticks.strip_suffix(']') {
+    let (ticks, fact) = match ticks.strip_suffix(']') {
         None => (ticks, None),
         Some(ticks) => {
-            let (ticks, model) = ticks.rsplit_once(" [").unwrap();
-            (ticks, Some(model.to_string()))
+            let (ticks, fact) = ticks.rsplit_once(" [").unwrap();
+            (ticks, Some(fact.to_string()))
         }
     };
     let numbered = ticks.split_once(' ');
@@ -50,7 +59,7 @@ fn arrow(line: &str) -> Arrow {
         to: to.to_string(),
         entry: numbered.map(|(number, _)| number),
         tick: numbered.map_or(ticks, |(_, tick)| tick).to_string(),
-        model,
+        fact,
         send: send.to_string(),
     }
 }
@@ -86,8 +95,8 @@ fn takes(list: &[String], arrow: &Arrow) {
 
 /// Takes every arrow of a picture with numbered entries: the entries before
 /// it are ticked by the first arrow that each has.
-fn walk(section: &str, begin: &str, model: &str) {
-    let has = |arrow: &Arrow| arrow.model.as_deref().is_none_or(|own| own == model);
+fn walk(section: &str, begin: &str, (model, facts): (&str, [bool; 3])) {
+    let has = |arrow: &Arrow| arrow.has(&facts);
     let picture: Vec<Arrow> = arrows(section).into_iter().filter(has).collect();
     let (new, rest) = picture.split_first().unwrap();
     let mut list = vec![begin.to_string()];
@@ -111,19 +120,22 @@ fn walk(section: &str, begin: &str, model: &str) {
 
 #[test]
 fn machines_of_start_ups() {
-    for model in ["Mevo", "Xi"] {
+    let [mevo, xi, rig, ..] = MODELS;
+    for model in [mevo, xi, rig] {
         walk("DSP start-up", "dsp", model);
-        walk("AVR start-up", &format!("avr {model}"), model);
     }
-    walk("Pi start-up", "pi", "Mevo");
+    for model in MODELS {
+        walk("AVR start-up", &format!("avr {}", model.0), model);
+    }
+    walk("Pi start-up", "pi", mevo);
 }
 
 #[test]
 fn machines_of_settings_and_disarm() {
     let params = "param_id=0x06 int24=1 param_id=0x0F int24=2";
     let begin = format!("avr_config mode=9 {params} range_mm=2438 height_mm=25");
-    walk("Settings run", &begin, "Mevo");
-    walk("Disarm", "disarm", "Mevo");
+    walk("Settings run", &begin, MODELS[0]);
+    walk("Disarm", "disarm", MODELS[0]);
 }
 
 /// The calls that lead to the step from which an arm's arrow goes.
@@ -153,10 +165,10 @@ fn before_arm(arrow: &Arrow) -> Vec<&str> {
 #[test]
 fn machines_of_the_arm() {
     let picture = arrows("Arm");
-    for model in ["Mevo", "Xi"] {
+    for (model, facts) in MODELS {
         let begin = format!("arm {model}");
         takes(&[begin.clone()], &picture[0]);
-        let own = |arrow: &&Arrow| arrow.model.as_deref().is_none_or(|own| own == model);
+        let own = |arrow: &&Arrow| arrow.has(&facts);
         for arrow in picture[1..].iter().filter(own) {
             let ticks = before_arm(arrow).into_iter().chain([&arrow.tick[..]]);
             let calls = ticks.map(|tick| call(tick, model, 0));

@@ -4,18 +4,21 @@
 
 mod common;
 
-use common::{answers, message, repository};
+use common::{MODELS, answers, fact, message, repository};
 
 const SECOND: u64 = 1_000_000_000;
 
 /// The rows of a section's table that a model has.
-fn table(section: &str, model: &str) -> Vec<Vec<String>> {
+fn table(section: &str, facts: &[bool; 3]) -> Vec<Vec<String>> {
     let papers = repository("docs/SCOPE.md").replace('`', "");
     let (_, rest) = papers.split_once(&format!("\n## {section}\n")).unwrap();
     let rows = rest.lines().skip_while(|line| !line.starts_with('|'));
     let rows = rows.take_while(|line| line.starts_with('|')).skip(2);
     let cells = |row: &str| row.split('|').map(|c| c.trim().to_string()).collect();
-    let own = |row: &Vec<String>| !row[1].ends_with("only") || row[1].contains(model);
+    let own = |row: &Vec<String>| match row[1].split_once(", ") {
+        Some((_, words)) => fact(words, facts).expect(words).0,
+        None => true,
+    };
     rows.map(cells).filter(own).collect()
 }
 
@@ -36,11 +39,17 @@ fn field<'a>(state: &'a str, names: &[&str], name: &str) -> &'a str {
     &rest[..ends.min().unwrap_or(rest.len())]
 }
 
-/// What a cell says is sent on a model.
-fn sends(cell: &str, model: &str) -> String {
-    let of = format!("of a {model} ");
-    let own = cell.split("; ").find_map(|part| part.strip_prefix(&of));
-    let own = own.unwrap_or(cell).replace(", and it is done", "");
+/// What a cell says is sent on a model: the same on each, or something with a
+/// fact and something without it.
+fn sends(cell: &str, facts: &[bool; 3]) -> String {
+    let own = match fact(cell, facts) {
+        None => cell,
+        Some((has, rest)) => {
+            let (with, without) = rest.trim().split_once("; without it ").expect(cell);
+            if has { with } else { without }
+        }
+    };
+    let own = own.replace(", and it is done", "");
     own.replace("nothing", "no send").replace("EPOCH", "0")
 }
 
@@ -56,16 +65,16 @@ fn stores<'a>(cell: &'a str, tick: &str) -> Vec<&'a str> {
 }
 
 /// Takes every row by each of its ticks, and the rows before it by their first.
-fn walk(section: &str, begin: &str, model: &str, names: &str) {
+fn walk(section: &str, begin: &str, (model, facts): (&str, [bool; 3]), names: &str) {
     let names: Vec<&str> = names.split_whitespace().collect();
-    let rows = table(section, model);
+    let rows = table(section, &facts);
     let (mut list, mut call) = (String::new(), begin.to_string());
     for (i, row) in rows.iter().enumerate() {
         list = format!("{list}{call}\n");
         let (_, state) = last(&list, "");
         let (before, now) = (3 * SECOND * i as u64, 3 * SECOND * (i as u64 + 1));
         let next = rows.get(i + 1).map_or("Done", |row| &row[2]);
-        let (number, sent) = (row[1].split(',').next().unwrap(), sends(&row[4], model));
+        let (number, sent) = (row[1].split(',').next().unwrap(), sends(&row[4], &facts));
         let expected = format!("accepted; ticked {number}; {sent}; {next} ");
         for tick in row[3].rsplit("; or ") {
             let idle;
@@ -97,15 +106,14 @@ fn walk(section: &str, begin: &str, model: &str, names: &str) {
 fn scope_of_start_ups_and_disarm() {
     let dsp = "status hw_info dev_info prod_info config deadline refused power_mode_unanswered";
     let avr = "status dev_info config factory_cal if_cal avr_config cal_deadline";
-    for model in ["Mevo", "Xi"] {
+    let [mevo, xi, rig, ..] = MODELS;
+    for model in [mevo, xi, rig] {
         walk("DSP start-up", "dsp", model, dsp);
-        walk("AVR start-up", &format!("avr {model}"), model, avr);
     }
-    walk(
-        "Pi start-up",
-        "pi",
-        "Mevo",
-        "dev_info cam_config ssid password",
-    );
-    walk("Disarm", "disarm", "Mevo", "");
+    for model in MODELS {
+        walk("AVR start-up", &format!("avr {}", model.0), model, avr);
+    }
+    let pi = "dev_info cam_config ssid password";
+    walk("Pi start-up", "pi", mevo, pi);
+    walk("Disarm", "disarm", mevo, "");
 }

@@ -3,7 +3,7 @@
 
 use super::{arm, avr_config, disarm, start_ups};
 use crate::list::{Begin, Call, Feed, Which};
-use crate::protocol::handshake::DeviceModel;
+use crate::model::Model;
 use crate::running::View;
 
 pub struct Table {
@@ -141,11 +141,13 @@ fn noted(event: &Event) -> Vec<&'static str> {
 /// What a sequence was begun with, and with what outcome.
 pub fn begun(begin: &Begin, outcome: &str) -> Vec<&'static str> {
     match begin {
-        Begin::Avr(model) | Begin::Arm(model) => vec![match model {
-            None => "begun without model",
-            Some(DeviceModel::Xi) => "begun with Xi",
-            Some(_) => "begun with Mevo",
-        }],
+        Begin::Avr(model) | Begin::Arm(model) => match *model {
+            None => vec!["begun without model"],
+            Some(Model::MEVO) => vec!["begun with Mevo"],
+            Some(Model::XI) => vec!["begun with Xi"],
+            // the Rust has no other
+            Some(_) => Vec::new(),
+        },
         Begin::AvrConfig(settings) => avr_config::begun(settings, outcome),
         Begin::Dsp | Begin::Pi | Begin::Disarm => Vec::new(),
     }

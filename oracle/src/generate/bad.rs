@@ -5,6 +5,7 @@ use super::kinds::{self, KINDS, Kind, Type};
 use super::random::Random;
 use super::settings;
 use crate::list::{self, Call, LONGEST, Which};
+use crate::model::{RIG_TAG, has};
 
 /// Makes bad lines.
 pub struct BadLines {
@@ -75,7 +76,7 @@ impl BadLines {
         self.spoiled(line)
     }
 
-    /// `None` if its text isn't UTF-8 any more.
+    /// `None` if its text isn't UTF-8 any more, or its payload names a rig.
     fn spoiled(&mut self, line: &str) -> Option<String> {
         let mut chars: Vec<char> = line.chars().collect();
         if chars.is_empty() {
@@ -94,7 +95,10 @@ impl BadLines {
         }
         let spoiled: String = chars.into_iter().collect();
         let comparable = match list::read(spoiled.as_bytes(), Some(Which::Dsp)) {
-            Ok(Some(Call::Feed(feed))) => std::str::from_utf8(&feed.text).is_ok(),
+            Ok(Some(Call::Feed(feed))) => {
+                std::str::from_utf8(&feed.text).is_ok() && !has(&feed.payload, RIG_TAG)
+            }
+            Ok(Some(Call::Model { payload })) => !has(&payload, RIG_TAG),
             _ => true,
         };
         (comparable && !spoiled.contains('\n')).then_some(spoiled)

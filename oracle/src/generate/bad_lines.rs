@@ -11,7 +11,7 @@ pub const EARLY: [&str; 6] = [
 ];
 
 /// Lines with each reason. Those about a kind's fields are made below.
-pub const LINES: [&str; 62] = [
+pub const LINES: [&str; 65] = [
     "dsps",
     " \tDsp",
     "dsp#",
@@ -20,6 +20,9 @@ pub const LINES: [&str; 62] = [
     "ack Meva Dsp 1",
     "keepalive mevo",
     "keepalive \"Xi\"",
+    "keepalive yes/yes/no",
+    "keepalive no/yes",
+    "ack rig Avr 0xD4",
     "ack Xi",
     "ack Xi dsp 1",
     "feed 1",
@@ -78,7 +81,7 @@ pub const LINES: [&str; 62] = [
 
 /// The same, with words that the DSP's lists haven't. Some can be read
 /// while another sequence runs.
-pub const MORE_LINES: [&str; 34] = [
+pub const MORE_LINES: [&str; 35] = [
     "avrs",
     "Avr",
     "avr=Xi",
@@ -88,6 +91,7 @@ pub const MORE_LINES: [&str; 34] = [
     "avr 1",
     "avr Xi Xi",
     "avr Mevo #",
+    "avr no/yes/no",
     "pis",
     "Pi",
     "pi Mevo",
@@ -116,7 +120,7 @@ pub const MORE_LINES: [&str; 34] = [
 ];
 
 /// The same, with the words of settings runs, disarms and arms.
-pub const SETTINGS_ARM_LINES: [&str; 57] = [
+pub const SETTINGS_ARM_LINES: [&str; 58] = [
     "avr_configs mode=9",
     "Avr_config mode=9",
     "avr-config mode=9",
@@ -167,6 +171,7 @@ pub const SETTINGS_ARM_LINES: [&str; 57] = [
     "arm \"Xi\"",
     "arm Xi Xi",
     "arm Mevo #",
+    "arm no/no/yes",
     "retries",
     " retries",
     "retries 1",

@@ -1,6 +1,7 @@
 //! Texts and payloads, and how they are written.
 
 use super::random::Random;
+use crate::model::{RIG_TAG, has};
 use crate::protocol::handshake::DeviceModel;
 
 /// Lengths at the limit of 256 bytes, and short ones.
@@ -38,13 +39,24 @@ fn character(random: &mut Random) -> char {
 }
 
 pub fn payload(random: &mut Random, length: usize) -> Vec<u8> {
-    if random.chance(30) {
-        return text(random, length);
-    }
-    (0..length).map(|_| random.byte()).collect()
+    let bytes = match random.chance(30) {
+        true => text(random, length),
+        false => (0..length).map(|_| random.byte()).collect(),
+    };
+    without_the_rig(bytes)
 }
 
-/// A device-info payload that names the model, or doesn't quite.
+/// The Rust has no rig, so no payload names one.
+fn without_the_rig(mut bytes: Vec<u8>) -> Vec<u8> {
+    while has(&bytes, RIG_TAG) {
+        let tag = bytes.windows(RIG_TAG.len()).position(|b| b == RIG_TAG);
+        bytes[tag.expect("it has one")] = b'b';
+    }
+    bytes
+}
+
+/// A device-info payload that names the model, or doesn't quite. It almost
+/// names a rig, too.
 pub fn device_info(random: &mut Random, model: DeviceModel) -> Vec<u8> {
     let tag: &[u8] = match model {
         DeviceModel::Xi => random.pick(&[
@@ -53,6 +65,7 @@ pub fn device_info(random: &mut Random, model: DeviceModel) -> Vec<u8> {
             b"FFS Xi",
             b"FS FS Xi",
             b"FSFS Xii",
+            b"BAY RIFS Xi",
         ]),
         _ => random.pick(&[
             &b"FS X"[..],
@@ -64,6 +77,10 @@ pub fn device_info(random: &mut Random, model: DeviceModel) -> Vec<u8> {
             b"FS XFS X",
             b"S Xi",
             b"FS M2",
+            b"BAY RI",
+            b"BAYRIG",
+            b"bay rig",
+            b"BAY RIFS X",
             b"",
         ]),
     };
@@ -76,7 +93,7 @@ pub fn device_info(random: &mut Random, model: DeviceModel) -> Vec<u8> {
     let mut bytes = payload(random, before);
     bytes.extend(tag);
     bytes.extend(payload(random, room - before));
-    bytes
+    without_the_rig(bytes)
 }
 
 /// A text with a needle: alone, at its start, in its middle, at its end or

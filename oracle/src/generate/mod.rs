@@ -17,6 +17,7 @@ mod readings;
 mod settings;
 
 pub use bad::BadLines;
+pub use bytes::device_info;
 use caller::Caller;
 use long_arm::LongArm;
 pub use random::Random;

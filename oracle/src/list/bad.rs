@@ -81,7 +81,7 @@ impl fmt::Display for Reason {
     fn fmt(&self, f: &mut fmt::Formatter<'_>) -> fmt::Result {
         f.write_str(match self {
             Reason::UnknownCall => "unknown call: docs/REPLAY.md names them all",
-            Reason::UnknownModel => "unknown model: Mevo or Xi expected",
+            Reason::UnknownModel => "unknown model: Mevo, Xi or Rig expected, or the facts of another, as no/yes/yes",
             Reason::UnknownSource => "unknown source: App, Pi, Avr or Dsp expected",
             Reason::UnknownKind => "unknown kind: docs/REPLAY.md names them all, and capitals count",
             Reason::Expected(name) => return write!(f, "{name}= expected"),

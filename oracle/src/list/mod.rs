@@ -11,8 +11,8 @@ use cursor::Cursor;
 pub use which::Which;
 
 use crate::addr::BusAddr;
+use crate::model::Model;
 use crate::protocol::Message;
-use crate::protocol::handshake::DeviceModel;
 use crate::seq::{AvrSettings, MevoSettings};
 
 /// The longest line that is read, in bytes without its line feed.
@@ -29,12 +29,12 @@ pub enum Call {
     Take,
     Retries,
     Ack {
-        model: DeviceModel,
+        model: Model,
         src: BusAddr,
         type_id: u8,
     },
     Keepalive {
-        model: Option<DeviceModel>,
+        model: Option<Model>,
     },
     Model {
         payload: Vec<u8>,
@@ -45,12 +45,12 @@ pub enum Call {
 pub enum Begin {
     Dsp,
     /// With the model, if one is given.
-    Avr(Option<DeviceModel>),
+    Avr(Option<Model>),
     Pi,
     AvrConfig(Settings),
     Disarm,
     /// With the model, if one is given.
-    Arm(Option<DeviceModel>),
+    Arm(Option<Model>),
 }
 
 /// What a settings run is begun with: the settings, or what makes them.
@@ -196,7 +196,7 @@ fn ack(c: &mut Cursor) -> Result<Call, Bad> {
 }
 
 /// The model that ends a line, if one does.
-fn given_model(c: &mut Cursor) -> Result<Option<DeviceModel>, Bad> {
+fn given_model(c: &mut Cursor) -> Result<Option<Model>, Bad> {
     if c.at_end() {
         return Ok(None);
     }
@@ -210,13 +210,9 @@ fn model_of(c: &mut Cursor) -> Result<Call, Bad> {
     })
 }
 
-fn model(c: &mut Cursor) -> Result<DeviceModel, Bad> {
+fn model(c: &mut Cursor) -> Result<Model, Bad> {
     let (at, word) = c.word();
-    match word {
-        b"Mevo" => Ok(DeviceModel::Mevo),
-        b"Xi" => Ok(DeviceModel::Xi),
-        _ => Err(Bad::at(at, Reason::UnknownModel)),
-    }
+    Model::read(word).ok_or(Bad::at(at, Reason::UnknownModel))
 }
 
 fn source(c: &mut Cursor) -> Result<BusAddr, Bad> {

@@ -79,6 +79,31 @@ pub fn repository(path: &str) -> String {
     fs::read_to_string(root.join(path)).unwrap()
 }
 
+/// Each model as it is spelled, and whether it has a camera, a factory
+/// calibration and the power-mode step.
+pub const MODELS: [(&str, [bool; 3]); 8] = [
+    ("Mevo", [true, true, false]),
+    ("Xi", [false, false, true]),
+    ("Rig", [false, true, false]),
+    ("no/no/no", [false, false, false]),
+    ("no/yes/yes", [false, true, true]),
+    ("yes/no/no", [true, false, false]),
+    ("yes/no/yes", [true, false, true]),
+    ("yes/yes/yes", [true, true, true]),
+];
+
+/// A fact as a cell of a table or an arrow of a picture names it: whether the
+/// model has it, and what stands behind that.
+pub fn fact<'a>(words: &'a str, facts: &[bool; 3]) -> Option<(bool, &'a str)> {
+    let names = ["a camera", "the factory calibration", "the power-mode step"];
+    let (wanted, rest) = match words.strip_prefix("without ") {
+        Some(rest) => (false, rest),
+        None => (true, words.strip_prefix("with ")?),
+    };
+    let of = |(name, has): (&str, &bool)| Some((*has == wanted, rest.strip_prefix(name)?));
+    names.into_iter().zip(facts).find_map(of)
+}
+
 /// The feed of a message that is named with its source; without one it comes
 /// from App. Bytes and one number differ from reading to reading.
 pub fn message(named: &str, model: &str, now: u64) -> String {
@@ -90,6 +115,7 @@ pub fn message(named: &str, model: &str, now: u64) -> String {
     let fields = fields(kind, acked.unwrap_or("0"), now);
     let bytes = match kind {
         "Text" => format!(" text=\"{said}\""),
+        "DevInfoResp" if model == "Rig" => format!(" text=\"{now}\" payload=\"BAY RIG\""),
         "DevInfoResp" => format!(" text=\"{now}\" payload=\"FS {model}\""),
         "ProdInfoResp" | "NetConfigResp" => format!(" text=\"{now}\\x00{now}\""),
         _ => String::new(),
