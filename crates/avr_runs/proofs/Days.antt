@@ -1,9 +1,9 @@
--- The theorem at work: lists of calls of a Mevo, the rig and a Xi, whatever the statuses in them are, in which every part of it is read. A
--- weaker theorem would not give these.
+-- The theorem at work: lists of calls of units with a factory calibration and without, whatever the statuses in them and the models' other facts
+-- are, in which every part of it is read. A weaker theorem would not give these.
 -- Assumes nothing.
 use Prim.Native.Nat.{ℕ}
 use mathlib.Core.Path.{◌≡◌, refl, sym, ◌∙◌, ap}
-use mathlib.Core.Bool.{false, true≢false}
+use mathlib.Core.Bool.{Bool, true, false, true≢false}
 use mathlib.Core.List.{List, [], ◌∷◌, ◌++◌}
 use lib.IntN.{ℤ}
 use lib.ListN.{length}
@@ -76,120 +76,115 @@ module _ (a b : AvrStatus) where
       reply (Message.AvrStatus a) 1 ∷ reply (Message.AvrStatus b) 2 ∷ dev_info 49 3 ∷ dev_info 50 4 ∷ reply (Message.AvrStatus a) 5 ∷ param 6
       ∷ param 7 ∷ config 8 ∷ []
 
-  -- ---- a Mevo: the factory calibration is answered, the other one isn't; a check ticks it 2 s after the answer, an earlier one doesn't
+  -- ---- with a factory calibration, as a Mevo and the rig: it is answered, the other one isn't; a check ticks that 2 s after the answer, an
+  -- earlier one doesn't
 
-  abbrev mevo_early : List AvrCall
-  mevo_early =
+  abbrev cal_early : List AvrCall
+  cal_early =
       begins ++ from Message.CalDataResp [] [] (7 ∷ []) 10 ∷ check 2_000_000_009 ∷ check 2_000_000_010
       ∷ from Message.AvrConfigResp [] [] (8 ∷ []) 2_000_000_011 ∷ param 2_000_000_012 ∷ []
 
-  abbrev mevo_whole : List AvrCall
-  mevo_whole = mevo_early ++ ask into_result ∷ reply (Message.TimeSync (record { epoch = 1; session = 0 })) 2_000_000_013 ∷ []
+  abbrev cal_whole : List AvrCall
+  cal_whole = cal_early ++ ask into_result ∷ reply (Message.TimeSync (record { epoch = 1; session = 0 })) 2_000_000_013 ∷ []
 
-  abbrev mevo_day : List AvrCall
-  mevo_day = mevo_whole ++ ask into_result ∷ from Message.CalParamResp [] [] (9 ∷ []) 2_000_000_014 ∷ []
+  abbrev cal_day : List AvrCall
+  cal_day = cal_whole ++ ask into_result ∷ from Message.CalParamResp [] [] (9 ∷ []) 2_000_000_014 ∷ []
 
-  pub mevo_places : places models.mevo mevo_day ≡ 0 ∷ 1 ∷ 2 ∷ 3 ∷ 5 ∷ 6 ∷ 7 ∷ 8 ∷ 10 ∷ 11 ∷ 12 ∷ 13 ∷ []
-  mevo_places = refl
+  -- whatever the other two facts are
+  module _ (camera power_mode : Bool) where
+    abbrev cal : DeviceModel
+    cal = record { camera = camera; factory_cal = true; power_mode = power_mode }
 
-  pub mevo_ticked_off : Off models.mevo mevo_day
-  unfolding stored
-  mevo_ticked_off = (right models.mevo mevo_day).ends.done.0 refl
+    pub cal_entries : length (table cal) ≡ 12
+    cal_entries = refl
 
-  mevo_whole_lem : Off models.mevo mevo_whole
-  mevo_whole_lem = (places models.mevo mevo_whole, leftmost_matching {r = run models.mevo mevo_whole} refl)
+    pub cal_places : places cal cal_day ≡ 0 ∷ 1 ∷ 2 ∷ 3 ∷ 5 ∷ 6 ∷ 7 ∷ 8 ∷ 10 ∷ 11 ∷ 12 ∷ 13 ∷ []
+    cal_places = refl
 
-  pub mevo_done : (state models.mevo mevo_day).state.step ≡ AvrStep.Done
-  mevo_done = (right models.mevo mevo_day).ends.done.1 (places models.mevo mevo_day, leftmost_matching {r = run models.mevo mevo_day} refl)
+    pub cal_ticked_off : Off cal cal_day
+    unfolding stored
+    cal_ticked_off = (right cal cal_day).ends.done.0 refl
 
-  pub mevo_asked_early : finished (state models.mevo mevo_early) ≡ Err Refusal.NotDone
-  unfolding stored
-  mevo_asked_early = (right models.mevo mevo_day).asked.before mevo_early _ refl (not_yet models.mevo mevo_early refl)
+    cal_whole_lem : Off cal cal_whole
+    cal_whole_lem = (places cal cal_whole, leftmost_matching {r = run cal cal_whole} refl)
 
-  pub mevo_result : finished (state models.mevo mevo_whole)
-      ≡ Ok (record {
-        status = b;
-        dev_info = record { text = stored (50 ∷ []); payload = stored (50 ∷ 0 ∷ []) };
-        config = record { params = ℤ.pos 5 ∷ [] };
-        factory_cal = Some (record { payload = stored (7 ∷ []) });
-        if_cal = None;
-        avr_config = Some (record { payload = stored (8 ∷ []) });
-      })
-  mevo_result =
-      (right models.mevo mevo_day).asked.from mevo_whole _ refl mevo_whole_lem (places models.mevo mevo_day)
-      (earliest models.mevo mevo_day mevo_ticked_off)
+    pub cal_done : (state cal cal_day).state.step ≡ AvrStep.Done
+    cal_done = (right cal cal_day).ends.done.1 (places cal cal_day, leftmost_matching {r = run cal cal_day} refl)
 
-  -- ---- the practice rig: a Mevo's twelve entries, by the same calls
+    pub cal_asked_early : finished (state cal cal_early) ≡ Err Refusal.NotDone
+    unfolding stored
+    cal_asked_early = (right cal cal_day).asked.before cal_early _ refl (not_yet cal cal_early refl)
 
+    pub cal_result : finished (state cal cal_whole)
+        ≡ Ok (record {
+          status = b;
+          dev_info = record { text = stored (50 ∷ []); payload = stored (50 ∷ 0 ∷ []) };
+          config = record { params = ℤ.pos 5 ∷ [] };
+          factory_cal = Some (record { payload = stored (7 ∷ []) });
+          if_cal = None;
+          avr_config = Some (record { payload = stored (8 ∷ []) });
+        })
+    cal_result =
+        (right cal cal_day).asked.from cal_whole _ refl cal_whole_lem (places cal cal_day)
+        (earliest cal cal_day cal_ticked_off)
+
+  pub mevo_done : (state models.mevo cal_day).state.step ≡ AvrStep.Done
+  mevo_done = cal_done true false
+
+  -- the practice rig
   pub rig_entries : length (table models.rig) ≡ 12
-  rig_entries = refl
+  rig_entries = cal_entries false false
 
-  pub rig_places : places models.rig mevo_day ≡ 0 ∷ 1 ∷ 2 ∷ 3 ∷ 5 ∷ 6 ∷ 7 ∷ 8 ∷ 10 ∷ 11 ∷ 12 ∷ 13 ∷ []
-  rig_places = refl
+  pub rig_done : (state models.rig cal_day).state.step ≡ AvrStep.Done
+  rig_done = cal_done false false
 
-  pub rig_ticked_off : Off models.rig mevo_day
-  unfolding stored
-  rig_ticked_off = (right models.rig mevo_day).ends.done.0 refl
+  -- ---- without one, as a Xi: done with the eighth entry; a factory calibration is not looked at
 
-  rig_whole_lem : Off models.rig mevo_whole
-  rig_whole_lem = (places models.rig mevo_whole, leftmost_matching {r = run models.rig mevo_whole} refl)
+  abbrev bare_early : List AvrCall
+  bare_early = begins ++ from Message.CalDataResp [] [] (7 ∷ []) 10 ∷ []
 
-  pub rig_done : (state models.rig mevo_day).state.step ≡ AvrStep.Done
-  rig_done = (right models.rig mevo_day).ends.done.1 (places models.rig mevo_day, leftmost_matching {r = run models.rig mevo_day} refl)
+  abbrev bare_whole : List AvrCall
+  bare_whole = bare_early ++ ask into_result ∷ from Message.CalParamResp [] [] (9 ∷ []) 11 ∷ []
 
-  pub rig_asked_early : finished (state models.rig mevo_early) ≡ Err Refusal.NotDone
-  unfolding stored
-  rig_asked_early = (right models.rig mevo_day).asked.before mevo_early _ refl (not_yet models.rig mevo_early refl)
+  abbrev bare_day : List AvrCall
+  bare_day = bare_whole ++ ask into_result ∷ from Message.AvrConfigResp [] [] (8 ∷ []) 12 ∷ []
 
-  pub rig_result : finished (state models.rig mevo_whole)
-      ≡ Ok (record {
-        status = b;
-        dev_info = record { text = stored (50 ∷ []); payload = stored (50 ∷ 0 ∷ []) };
-        config = record { params = ℤ.pos 5 ∷ [] };
-        factory_cal = Some (record { payload = stored (7 ∷ []) });
-        if_cal = None;
-        avr_config = Some (record { payload = stored (8 ∷ []) });
-      })
-  rig_result =
-      (right models.rig mevo_day).asked.from mevo_whole _ refl rig_whole_lem (places models.rig mevo_day)
-      (earliest models.rig mevo_day rig_ticked_off)
+  -- whatever the other two facts are
+  module _ (camera power_mode : Bool) where
+    abbrev bare : DeviceModel
+    bare = record { camera = camera; factory_cal = false; power_mode = power_mode }
 
-  -- ---- a Xi: done with the eighth entry; a factory calibration is not looked at
+    pub bare_entries : length (table bare) ≡ 8
+    bare_entries = refl
 
-  abbrev xi_early : List AvrCall
-  xi_early = begins ++ from Message.CalDataResp [] [] (7 ∷ []) 10 ∷ []
+    pub bare_places : places bare bare_day ≡ 0 ∷ 1 ∷ 2 ∷ 3 ∷ 5 ∷ 6 ∷ 7 ∷ 9 ∷ []
+    bare_places = refl
 
-  abbrev xi_whole : List AvrCall
-  xi_whole = xi_early ++ ask into_result ∷ from Message.CalParamResp [] [] (9 ∷ []) 11 ∷ []
+    pub bare_ticked_off : Off bare bare_day
+    unfolding stored
+    bare_ticked_off = (right bare bare_day).ends.done.0 refl
 
-  abbrev xi_day : List AvrCall
-  xi_day = xi_whole ++ ask into_result ∷ from Message.AvrConfigResp [] [] (8 ∷ []) 12 ∷ []
+    bare_whole_lem : Off bare bare_whole
+    bare_whole_lem = (places bare bare_whole, leftmost_matching {r = run bare bare_whole} refl)
 
-  pub xi_places : places models.xi xi_day ≡ 0 ∷ 1 ∷ 2 ∷ 3 ∷ 5 ∷ 6 ∷ 7 ∷ 9 ∷ []
-  xi_places = refl
+    pub bare_done : (state bare bare_day).state.step ≡ AvrStep.Done
+    bare_done = (right bare bare_day).ends.done.1 (places bare bare_day, leftmost_matching {r = run bare bare_day} refl)
 
-  pub xi_ticked_off : Off models.xi xi_day
-  unfolding stored
-  xi_ticked_off = (right models.xi xi_day).ends.done.0 refl
+    pub bare_asked_early : finished (state bare bare_early) ≡ Err Refusal.NotDone
+    unfolding stored
+    bare_asked_early = (right bare bare_day).asked.before bare_early _ refl (not_yet bare bare_early refl)
 
-  xi_whole_lem : Off models.xi xi_whole
-  xi_whole_lem = (places models.xi xi_whole, leftmost_matching {r = run models.xi xi_whole} refl)
+    pub bare_result : finished (state bare bare_whole)
+        ≡ Ok (record {
+          status = b;
+          dev_info = record { text = stored (50 ∷ []); payload = stored (50 ∷ 0 ∷ []) };
+          config = record { params = ℤ.pos 5 ∷ [] };
+          factory_cal = None;
+          if_cal = Some (record { payload = stored (9 ∷ []) });
+          avr_config = None;
+        })
+    bare_result =
+        (right bare bare_day).asked.from bare_whole _ refl bare_whole_lem (places bare bare_day) (earliest bare bare_day bare_ticked_off)
 
-  pub xi_done : (state models.xi xi_day).state.step ≡ AvrStep.Done
-  xi_done = (right models.xi xi_day).ends.done.1 (places models.xi xi_day, leftmost_matching {r = run models.xi xi_day} refl)
-
-  pub xi_asked_early : finished (state models.xi xi_early) ≡ Err Refusal.NotDone
-  unfolding stored
-  xi_asked_early = (right models.xi xi_day).asked.before xi_early _ refl (not_yet models.xi xi_early refl)
-
-  pub xi_result : finished (state models.xi xi_whole)
-      ≡ Ok (record {
-        status = b;
-        dev_info = record { text = stored (50 ∷ []); payload = stored (50 ∷ 0 ∷ []) };
-        config = record { params = ℤ.pos 5 ∷ [] };
-        factory_cal = None;
-        if_cal = Some (record { payload = stored (9 ∷ []) });
-        avr_config = None;
-      })
-  xi_result =
-      (right models.xi xi_day).asked.from xi_whole _ refl xi_whole_lem (places models.xi xi_day) (earliest models.xi xi_day xi_ticked_off)
+  pub xi_done : (state models.xi bare_day).state.step ≡ AvrStep.Done
+  xi_done = bare_done false true
