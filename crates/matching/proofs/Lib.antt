@@ -6,4 +6,5 @@ pub mod Called
 pub mod Entries
 pub mod Spelled
 pub mod Promised
+pub mod Kept
 pub mod Example

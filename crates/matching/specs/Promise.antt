@@ -1,7 +1,7 @@
 -- WHAT IS PROMISED of a sequencer that is called, over every list of its calls (docs/SCOPE.md, "Ticking"). Said once, for any table and any kind
 -- of call; a sequence says which table, and what which call answers. Definitions only.
 -- Assumes nothing.
-use Rattle.std.specs.Prelude.{◌≡◌, ◌↔◌, cond, List, [], ◌∷◌, ◌++◌, map, ℕ, ◌-◌, ltb, length, get_or}
+use Rattle.std.specs.Prelude.{◌≡◌, ◌↔◌, cond, List, [], ◌∷◌, ◌++◌, map, ℕ, suc, ◌-◌, ◌≤◌, ◌<◌, ltb, length, get_or, take}
 use Rattle.matching.specs.Matching.{Table, Matching, Earliest}
 
 -- P holds of each element.
@@ -61,3 +61,20 @@ module _ {E S C : Type 0} (at : E → ℕ) (nil : E) (event : ℕ → C → List
     pub before : (pre post : List C) → cs ≡ pre ++ c ∷ post → (Matched T pre → ⊥) → answer (state pre) ≡ early
     pub from : (pre post : List C) → cs ≡ pre ++ c ∷ post → Matched T pre → (ps : List ℕ) → First T cs ps
         → answer (state pre) ≡ ready (since at event 0 (get_or ps (length T - 1) 0) pre) (tick cs ps)
+
+  -- The first n entries can be matched, and no more; the earliest such matching is at the positions ps.
+  pub record SoFar (T : Table E) (cs : List C) (n : ℕ) (ps : List ℕ) : Type 0 where
+    pub inside : n ≤ length T
+    pub first : First (take n T) cs ps
+    pub last : n < length T → Matched (take (suc n) T) cs → ⊥
+
+  -- What is kept of the ticks so far: for each entry that can be matched, what `of` takes of the event at its position; and nothing else.
+  pub record Keeps (T : Table E) {K : Type 0} (kept : S → List K) (of : E → K) (cs : List C) : Type 0 where
+    pub some : (n : ℕ) × (ps : List ℕ) × SoFar T cs n ps
+    pub each : (n : ℕ) (ps : List ℕ) → SoFar T cs n ps → kept (state cs) ≡ map (λ p. of (get_or (run cs) p nil)) ps
+
+  -- Each call c of the list answers, whenever it is made, by the ticks before it: by what `of` takes of the event at each of their positions.
+  pub record AnswersSoFar {Y K : Type 0} (T : Table E) (c : C) (answer : S → Y) (of : E → K) (ready : List K → Y) (cs : List C) : Type 0 where
+    pub some : (pre post : List C) → cs ≡ pre ++ c ∷ post → (n : ℕ) × (ps : List ℕ) × SoFar T pre n ps
+    pub each : (pre post : List C) → cs ≡ pre ++ c ∷ post → (n : ℕ) (ps : List ℕ) → SoFar T pre n ps
+        → answer (state pre) ≡ ready (map (λ p. of (get_or (run pre) p nil)) ps)
