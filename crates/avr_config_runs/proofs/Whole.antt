@@ -12,7 +12,7 @@ use borrow.Author.Tests.{lt-ltb, le-ltb}
 use Rattle.matching.specs.Promise.{Each}
 use Rattle.matching.proofs.Machine.{Antitone}
 use Rattle.matching.proofs.Called.{Called}
-use Rattle.sequence.specs.Events.{reading, forever}
+use Rattle.sequence.specs.Events.{Envelope, Event, reading, forever}
 use Rattle.std.specs.Prelude.{is_some}
 use Rattle.sequence.specs.declared.Answer.{Answer}
 use Rattle.sequence.specs.Rows.{State, refused}
@@ -98,8 +98,8 @@ module _ (q : AvrSettings) where
 
   -- ---- as a sequence that is only fed
 
-  abbrev unview : State AvrConfigStep (Unit {0}) → AvrConfigSequencer
-  unview s = record { step = s.step; settings = q }
+  abbrev unview : List (Event Envelope) → State AvrConfigStep (Unit {0}) → AvrConfigSequencer
+  unview es s = record { step = s.step; settings = q }
 
   abbrev seq : Answer AvrConfigSequencer → AvrConfigSequencer
   seq f = f.seq
@@ -119,8 +119,8 @@ module _ (q : AvrSettings) where
     chained = chained;
     ended = refl;
     waitless = waitless;
-    seen = λ k y. refl;
-    moves = λ s e. refl;
+    seen = λ es k y. refl;
+    moves = λ es s e. refl;
     stays = λ s o. refl;
     feeds = λ s e. refl;
     asks = λ s x. refl;
@@ -136,4 +136,4 @@ pub right : Theorem
 right s cs =
     let q = running s in
     fed.ends (row q) (next q) Done (steps_for q) tt view (unview q) (seq q) advance refused after (feeds q) is_done refl
-    (refl, params_others q (count q.len) 0) (λ z. z.step) (λ z. refl) cs
+    (refl, params_others q (count q.len) 0) (λ z. z.step) (λ es z. refl) cs

@@ -2,7 +2,7 @@
 // refusals, are crate avr_config's. The settings never change, so no answer here holds them.
 #![tactic(auto)]
 
-ghost use Rattle.std.specs.Prelude.{◌≡◌, [], ◌+◌, min, Some};
+ghost use Rattle.std.specs.Prelude.{◌≡◌, true, [], ◌+◌, min, Some};
 ghost use Rattle.protocol.specs.declared.BusAddr.{BusAddr};
 ghost use Rattle.sequence.specs.Events.{fed, plain};
 ghost use Rattle.avr_config_steps.specs.declared.AvrConfigStep.{AvrConfigStep};
@@ -28,21 +28,23 @@ pub enum AvrConfigStep {
 
 // A commit, and the step that it begins.
 fn commit(state: AvrConfigStep) -> Moved<AvrConfigStep>
-    ensures { result ≡ record { action = Some commit; state = state } }
+    ensures { result ≡ record { action = Some commit; state = state; ticked = true } }
 {
     Moved {
         action: Some(avr_config_cmd(false)),
         state,
+        ticked: true,
     }
 }
 
 // A setting, and the step that it begins.
 fn send(command: Command, state: AvrConfigStep) -> Moved<AvrConfigStep>
-    ensures { result ≡ record { action = Some (to_avr command); state = state } }
+    ensures { result ≡ record { action = Some (to_avr command); state = state; ticked = true } }
 {
     Moved {
         action: Some(Action::send(command, BusAddr::Avr)),
         state,
+        ticked: true,
     }
 }
 
@@ -78,6 +80,7 @@ fn send_radar_cal(settings: AvrSettings) -> Moved<AvrConfigStep>
         None => Moved {
             action: None,
             state: AvrConfigStep::Done,
+            ticked: true,
         },
     }
 }
@@ -105,10 +108,8 @@ pub fn feed(settings: AvrSettings, step: AvrConfigStep, message: Message) -> Mov
         (AvrConfigStep::WaitRadarCalCommitAck, Message::ConfigAck(_)) => Moved {
             action: None,
             state: AvrConfigStep::Done,
+            ticked: true,
         },
-        _ => Moved {
-            action: None,
-            state: step,
-        },
+        _ => Moved::idle(step),
     }
 }

@@ -39,6 +39,7 @@ pub status_heard : (s : AvrState) (k : AvrStep) (m : Message) (a : AvrStatus) (t
         cal_deadline = s.cal_deadline;
         repoll_at = None;
       };
+      ticked = true;
     } ≡ poll_at (status_row (request k 0)) k s (sent 0 m [] [] [] t 0)
 status_heard s k m a t h = rw h
 
@@ -68,6 +69,7 @@ asked a k s ps t = record {
     cal_deadline = deadline_at t 2_000_000_000;
     repoll_at = s.repoll_at;
   };
+  ticked = true;
 }
 
 -- the factory's, where the model has one

@@ -26,7 +26,7 @@ abbrev pub unview : DeviceModel → State AvrStep Held → AvrState
 unview m s = record { step = s.step; model = m; replies = s.replies.replies; cal_deadline = s.deadline; repoll_at = s.replies.repoll }
 
 abbrev pub made : DeviceModel → Moved (State AvrStep Held) → Moved AvrState
-made m w = record { action = w.action; state = unview m w.state }
+made m w = record { action = w.action; state = unview m w.state; ticked = w.ticked }
 
 -- ---- a refused status poll
 
@@ -51,7 +51,7 @@ abbrev pub polling : AvrState → Bool
 polling s = leb (order s.step) 2
 
 abbrev pub sends : Action → AvrState → Moved AvrState
-sends a s = record { action = Some a; state = s }
+sends a s = record { action = Some a; state = s; ticked = false }
 
 -- a nack of 0x2A from the Avr then: the poll is sent again 1 s later, or when it was to be already
 abbrev pub is_nack : Event Dated → Bool

@@ -2,7 +2,7 @@
 // their refusals and the result, are crate avr's.
 #![tactic(auto)]
 
-ghost use Rattle.std.specs.Prelude.{◌≡◌, cond, [], Some, None};
+ghost use Rattle.std.specs.Prelude.{◌≡◌, true, cond, [], Some, None};
 ghost use Rattle.protocol.specs.Action.{send_to};
 ghost use Rattle.protocol.specs.declared.BusAddr.{BusAddr};
 ghost use Rattle.protocol.specs.declared.Command.{Command};
@@ -64,7 +64,7 @@ impl AvrState {
 
     // A step begins. Each crate of steps has this of its own, since the state that it makes has fields of its own.
     fn moved(self, step: AvrStep, replies: AvrReplies, wall: u64) -> Moved<AvrState>
-        ensures { result ≡ record { action = request step wall; state = record { step = step; model = self.model; replies = replies; cal_deadline = self.cal_deadline; repoll_at = self.repoll_at } } }
+        ensures { result ≡ record { action = request step wall; state = record { step = step; model = self.model; replies = replies; cal_deadline = self.cal_deadline; repoll_at = self.repoll_at }; ticked = true } }
     {
         Moved {
             action: request(step, wall),
@@ -73,6 +73,7 @@ impl AvrState {
                 replies,
                 ..self
             },
+            ticked: true,
         }
     }
 
@@ -151,7 +152,7 @@ impl AvrState {
 
     // A calibration is asked for, and waited for.
     fn to_cal(self, step: AvrStep, replies: AvrReplies, now: u64) -> Moved<AvrState>
-        ensures { result ≡ record { action = request step 0; state = record { step = step; model = self.model; replies = replies; cal_deadline = deadline_at now 2_000_000_000; repoll_at = self.repoll_at } } }
+        ensures { result ≡ record { action = request step 0; state = record { step = step; model = self.model; replies = replies; cal_deadline = deadline_at now 2_000_000_000; repoll_at = self.repoll_at }; ticked = true } }
     {
         let state = AvrState {
             cal_deadline: after(now, TIMEOUT),
@@ -180,7 +181,7 @@ impl AvrState {
 
     // Next step once the exchange of the other calibration is over, answered or not.
     fn after_if_cal(self, replies: AvrReplies) -> Moved<AvrState>
-        ensures { result ≡ record { action = cond (has_factory_cal self.model) (Some (send_to BusAddr.Avr Command.AvrConfigQuery)) None; state = record { step = next self.model AvrStep.WaitIfCal; model = self.model; replies = replies; cal_deadline = None; repoll_at = self.repoll_at } } }
+        ensures { result ≡ record { action = cond (has_factory_cal self.model) (Some (send_to BusAddr.Avr Command.AvrConfigQuery)) None; state = record { step = next self.model AvrStep.WaitIfCal; model = self.model; replies = replies; cal_deadline = None; repoll_at = self.repoll_at }; ticked = true } }
     {
         let state = AvrState {
             cal_deadline: None,
@@ -305,6 +306,7 @@ impl AvrState {
         Moved {
             action: Some(status_poll(false, BusAddr::Avr)),
             state,
+            ticked: false,
         }
     }
 }

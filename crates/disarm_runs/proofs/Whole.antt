@@ -3,10 +3,11 @@
 -- Assumes nothing.
 use mathlib.Core.Path.{◌≡◌, refl}
 use mathlib.Core.Bool.{Bool, true, false}
+use mathlib.Core.List.{List}
 use Rattle.matching.specs.Promise.{Each}
 use Rattle.matching.proofs.Machine.{Antitone}
 use Rattle.matching.proofs.Called.{Called}
-use Rattle.sequence.specs.Events.{reading, forever}
+use Rattle.sequence.specs.Events.{Envelope, Event, reading, forever}
 use Rattle.sequence.specs.declared.Answer.{Answer}
 use Rattle.sequence.specs.Rows.{State, refused}
 use Rattle.sequence.specs.Calls.{fed_event}
@@ -20,8 +21,8 @@ use Rattle.disarm.specs.Answers.{view, advance}
 use Rattle.disarm.specs.Calls.{after}
 use Rattle.disarm_runs.specs.Theorem.{Theorem}
 
-abbrev unview : State DisarmStep (Unit {0}) → DisarmSequencer
-unview s = record { step = s.step }
+abbrev unview : List (Event Envelope) → State DisarmStep (Unit {0}) → DisarmSequencer
+unview es s = record { step = s.step }
 
 abbrev seq : Answer DisarmSequencer → DisarmSequencer
 seq f = f.seq
@@ -37,8 +38,8 @@ feeds = record {
   chained = (refl, (refl, (refl, tt)));
   ended = refl;
   waitless = waitless;
-  seen = λ k y. refl;
-  moves = λ s e. refl;
+  seen = λ es k y. refl;
+  moves = λ es s e. refl;
   stays = λ s o. refl;
   feeds = λ s e. refl;
   asks = λ s q. refl;
@@ -57,4 +58,4 @@ pub sequencer : Called reading table after fed_event (fed.state_of row next Done
 sequencer = fed.sequencer row next Done steps tt view unview seq advance refused after feeds
 
 pub right : Theorem
-right = fed.ends row next Done steps tt view unview seq advance refused after feeds is_done refl (refl, (refl, (refl, tt))) (λ s. s.step) (λ s. refl)
+right = fed.ends row next Done steps tt view unview seq advance refused after feeds is_done refl (refl, (refl, (refl, tt))) (λ s. s.step) (λ es s. refl)

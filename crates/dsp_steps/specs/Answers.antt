@@ -25,7 +25,7 @@ abbrev pub unview : State DspStep DspReplies → DspState
 unview s = record { step = s.step; replies = s.replies; deadline = s.deadline }
 
 abbrev pub made : Moved (State DspStep DspReplies) → Moved DspState
-made w = record { action = w.action; state = unview w.state }
+made w = record { action = w.action; state = unview w.state; ticked = w.ticked }
 
 -- an accepted event, with the table of a model
 abbrev pub advance : DeviceModel → DspState → Event Envelope → Moved DspState

@@ -2,7 +2,7 @@
 // their refusals and the result, are crate dsp's.
 #![tactic(auto)]
 
-ghost use Rattle.std.specs.Prelude.{◌≡◌, [], ◌<◌, None};
+ghost use Rattle.std.specs.Prelude.{◌≡◌, true, [], ◌<◌, None};
 ghost use Rattle.device.specs.Model.{model_in};
 ghost use Rattle.sequence.specs.Events.{checked};
 ghost use Rattle.sequence.specs.Rows.{idle, past};
@@ -49,7 +49,7 @@ fn status_reply(status: DspStatus, payload: &[u8]) -> DspStatusReply
 
 // A step begins. Each crate of steps has this of its own, since the state that it makes has fields of its own.
 fn moved(step: DspStep, replies: DspReplies, deadline: Option<u64>) -> Moved<DspState>
-    ensures { result ≡ record { action = request step; state = record { step = step; replies = replies; deadline = deadline } } }
+    ensures { result ≡ record { action = request step; state = record { step = step; replies = replies; deadline = deadline }; ticked = true } }
 {
     Moved {
         action: request(step),
@@ -58,12 +58,13 @@ fn moved(step: DspStep, replies: DspReplies, deadline: Option<u64>) -> Moved<Dsp
             replies,
             deadline,
         },
+        ticked: true,
     }
 }
 
 // A wait is over, with or without a reply.
 fn waited(step: DspStep, replies: DspReplies) -> Moved<DspState>
-    ensures { result ≡ record { action = request step; state = record { step = step; replies = replies; deadline = None } } }
+    ensures { result ≡ record { action = request step; state = record { step = step; replies = replies; deadline = None }; ticked = true } }
 {
     moved(step, replies, None)
 }

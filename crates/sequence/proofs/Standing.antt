@@ -123,6 +123,16 @@ module _ {A Y K : Type 0} (row : K → Row A Y) (next : K → K) (done : K) (ste
           passes_test (row (step_at (length es))) (machine.reading_of reading es) e h
           ∙ sym (row_tests steps (length es) (machine.reading_of reading es) e)
 
+      -- whether it says that an entry was ticked
+      pub tells : (es : List (Event A)) (x : X) (e : Event A) → reading e ≤ 18_446_744_073_709_551_615
+          → (heard row next (standing es x) e).ticked ≡ machine.ticks reading table es e
+      tells es x e h = rw (passes_ticks es x e h) (go (machine.ticks reading table es e))
+        where
+          go : (b : Bool)
+              → (cond b (ticked (row (step_at (length es))) (next (step_at (length es))) (row (next (step_at (length es)))) (standing es x) e) (idle (standing es x))).ticked ≡ b
+          go true = refl
+          go false = refl
+
       -- an accepted event moves it by one row, or leaves it
       pub moves : (es : List (Event A)) (x : X) (e : Event A) → reading e ≤ 18_446_744_073_709_551_615
           → (heard row next (standing es x) e).state ≡ standing (machine.heard reading table es e) (kept es x e)

@@ -1,7 +1,7 @@
 -- THE ROWS of a table, said once for every sequence: what an entry is, when it is ticked, and what an accepted feed or check does at it.
 -- A is what a feed is handed, Y what is stored, K the steps. Definitions only.
 -- Assumes nothing.
-use Rattle.std.specs.Prelude.{ℕ, ◌+◌, Bool, false, cond, leb, Option, Some, None, Result, Ok, Err}
+use Rattle.std.specs.Prelude.{ℕ, ◌+◌, Bool, true, false, cond, leb, Option, Some, None, Result, Ok, Err}
 use Rattle.protocol.specs.declared.Action.{Action}
 use Rattle.protocol.specs.declared.Refusal.{Refusal}
 use Rattle.matching.specs.Matching.{Entry}
@@ -66,7 +66,7 @@ deadline_after forever (nanos k) d t = deadline_at t k
 deadline_after (nanos n) (nanos k) d t = deadline_at t k
 
 abbrev pub idle : {S : Type 0} → S → Moved S
-idle s = record { action = None; state = s }
+idle s = record { action = None; state = s; ticked = false }
 
 module _ {A Y K : Type 0} where
   -- the row r is ticked, and r', awaited at step k, is next: its send, its store
@@ -74,6 +74,7 @@ module _ {A Y K : Type 0} where
   ticked r k r' s e = record {
     action = r.send e;
     state = record { step = k; replies = r.store e s.replies; deadline = deadline_after r.wait r'.wait s.deadline (reading e) };
+    ticked = true;
   }
 
   abbrev pub heard_at : Row A Y → K → Row A Y → State K Y → Event A → Moved (State K Y)

@@ -15,21 +15,23 @@ const MAX_LEN: usize = 256;
 // The largest clock reading, in nanoseconds: any wait added to it fits in 64 bits.
 const MAX_READING: u64 = 18_446_744_071_709_551_615;
 
-// What an accepted feed or check does to a state: what is sent, if anything, and the state then.
+// What an accepted feed or check does to a state: what is sent, if anything, the state then, and whether an entry was ticked.
 #[derive(Clone, Copy)]
 pub struct Moved<S> {
     pub action: Option<Action>,
     pub state: S,
+    pub ticked: bool,
 }
 
 impl<S> Moved<S> {
-    // Nothing is sent, and nothing changes.
+    // Nothing is sent, and no entry is ticked.
     pub fn idle(state: S) -> Moved<S>
         ensures { result ≡ idle state }
     {
         Moved {
             action: None,
             state,
+            ticked: false,
         }
     }
 }
