@@ -1,0 +1,4 @@
+pub mod Ticks
+pub mod Sheet
+pub mod Decimal
+pub mod Lowest
