@@ -7,18 +7,20 @@ use Rattle.avr_table.specs.Stores.{Dated, env}
 use Rattle.avr.specs.declared.AvrSequencer.{AvrSequencer}
 use Rattle.avr.specs.Answers.{fed_to, polled}
 
--- beside feeds and checks: into_result
+-- beside feeds and checks: into_result, and the sheet, with the lent buffer and the place
 pub data Asked : Type 0 where
   into_result : Asked
+  sheet : List ℕ → ℕ → Asked
 
 abbrev pub AvrCall : Type 0
 AvrCall = calls.Call Dated Asked
 
--- the sequencer after a call, by what the contracts say; asking for the result leaves it
+-- the sequencer after a call, by what the contracts say; asking for the result or the sheet leaves it
 abbrev pub after : AvrSequencer → AvrCall → AvrSequencer
 after s (calls.feed d t) = (fed_to s d t).seq
 after s (calls.check t) = (polled s t).seq
 after s (calls.ask into_result) = s
+after s (calls.ask (sheet buf at)) = s
 
 abbrev pub event : ℕ → AvrCall → List (Event Dated)
 event last c = calls.event env last c

@@ -5,7 +5,8 @@
 
 ghost use Rattle.std.specs.Prelude.{◌≡◌};
 ghost use Rattle.device.specs.Model.{mevo};
-ghost use Rattle.avr.specs.Answers.{begun, fed_to, polled, accepted, sync_of, finished};
+ghost use Rattle.sheet.specs.Sheet.{answered, written};
+ghost use Rattle.avr.specs.Answers.{begun, fed_to, polled, accepted, sync_of, finished, sheet_of};
 
 use avr_steps::AvrState;
 use avr_table::{AvrReplies, AvrStep};
@@ -16,12 +17,15 @@ use protocol::{
 };
 use requests::status_poll;
 use sequence::{Answer, Moved};
+use sheet::{SheetRefusal, StartUp, Tick, Ticks};
 
 #[derive(Clone, Copy)]
 pub struct AvrSequencer {
     pub state: AvrState,
     // the last accepted reading
     pub last: u64,
+    // of the entries that are ticked
+    pub ticks: Ticks,
 }
 
 #[derive(Clone, Copy)]
@@ -51,14 +55,15 @@ impl From<AvrReplies> for AvrSync {
     }
 }
 
-// An accepted call's answer, `now` being its reading. Each sequencer with a clock has this of its own: a `Timed<S>` for both could have
-// no methods in their crates.
-fn accepted(moved: Moved<AvrState>, now: u64) -> Answer<AvrSequencer>
-    ensures { result ≡ accepted moved now }
+// An accepted call's answer, `tick` being its reading, and how it ticks an entry if it ticks one. Each sequencer with a clock has this of its own: a
+// `Timed<S>` for both could have no methods in their crates.
+fn accepted(ticks: Ticks, moved: Moved<AvrState>, tick: Tick) -> Answer<AvrSequencer>
+    ensures { result ≡ accepted ticks moved tick }
 {
     let seq = AvrSequencer {
         state: moved.state,
-        last: now,
+        last: tick.reading,
+        ticks: ticks.then(moved.ticked, tick),
     };
     Answer::accepted(moved.action, seq)
 }
@@ -78,6 +83,7 @@ impl AvrSequencer {
         let seq = AvrSequencer {
             state: AvrState::new(model),
             last: 0,
+            ticks: Ticks::none(),
         };
         Answer::accepted(Some(status_poll(false, BusAddr::Avr)), seq)
     }
@@ -101,9 +107,10 @@ impl AvrSequencer {
         }
         match src {
             BusAddr::Avr => accepted(
+                self.ticks,
                 self.state
                     .feed(type_id, message, params, text, payload, now, wall),
-                now,
+                Tick::fed(message, now),
             ),
             _ => Answer::accepted(None, AvrSequencer { last: now, ..self }),
         }
@@ -113,7 +120,7 @@ impl AvrSequencer {
         ensures { result ≡ polled self now }
     {
         match sequence::accept_check(self.last, now) {
-            Ok(()) => accepted(self.state.check(now), now),
+            Ok(()) => accepted(self.ticks, self.state.check(now), Tick::checked(now)),
             Err(refusal) => Answer::refused(refusal, self),
         }
     }
@@ -126,5 +133,15 @@ impl AvrSequencer {
             AvrStep::Done => Ok(AvrSync::from(self.state.replies)),
             _ => Err(Refusal::NotDone),
         }
+    }
+
+    /// The sheet of the entries ticked so far, before Done too: a line each, written into the part of `buf` that begins at place `at` and
+    /// reaches to the buffer's end. Answers how many bytes that is; the bytes outside of it stay. Refused with 5 where the part is shorter
+    /// than the sheet or the place is past the buffer's end, and then nothing is written. The Rust has no such call.
+    pub fn sheet(&self, buf: &mut [u8], at: usize) -> Result<usize, SheetRefusal>
+        ensures answer { result ≡ answered (sheet_of self.now) at buf.old }
+        ensures buffer { buf.new ≡ written (sheet_of self.now) at buf.old }
+    {
+        sheet::write(StartUp::Avr, &self.ticks, buf, at)
     }
 }

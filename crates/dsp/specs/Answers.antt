@@ -1,6 +1,6 @@
 -- What the calls of a DSP start-up answer: refused with the lowest number that applies, or by the row at the step. Definitions only.
 -- Assumes nothing.
-use Rattle.std.specs.Prelude.{ℕ, Bool, true, false, Option, Some, None, unwrap_or, Result, Ok, Err}
+use Rattle.std.specs.Prelude.{ℕ, Bool, true, false, List, [], Option, Some, None, unwrap_or, Result, Ok, Err}
 use Rattle.protocol.specs.declared.BusAddr.{BusAddr}
 use Rattle.protocol.specs.declared.Nack.{Nack}
 use Rattle.protocol.specs.declared.Refusal.{Refusal}
@@ -10,10 +10,15 @@ use Rattle.device.specs.declared.model.DeviceModel.{DeviceModel}
 use Rattle.device.specs.Model.{model_in}
 use Rattle.requests.specs.Requests.{status_poll}
 use Rattle.sequence.specs.Accepted.{feed_outcome, check_outcome, result_refusals}
-use Rattle.sequence.specs.Events.{Envelope, Event, fed, checked, reading}
+use Rattle.sequence.specs.Events.{Envelope, Event, fed, checked}
 use Rattle.sequence.specs.declared.Moved.{Moved}
 use Rattle.sequence.specs.declared.Answer.{Answer}
 use Rattle.sequence.specs.Rows.{judged, refused}
+use Rattle.sheet.specs.declared.Tick.{Tick}
+use Rattle.sheet.specs.declared.StartUp.{StartUp}
+use Rattle.sheet.specs.declared.Ticks.{Ticks}
+use Rattle.sheet.specs.Sheet.{sheet}
+use Rattle.sheet.specs.Ticks.{tick_of, stored, then_tick, kept}
 use Rattle.dsp_table.specs.declared.DspStep.{DspStep}
 use Rattle.dsp_table.specs.declared.DspStep.TheVariants.{WaitStatus, WaitDspQuery, WaitDevInfo, WaitProdInfo0, WaitProdInfo1, WaitProdInfo2, WaitConfig, WaitPowerMode, Done}
 use Rattle.dsp_table.specs.declared.DspReplies.{DspReplies}
@@ -24,18 +29,19 @@ use Rattle.dsp.specs.declared.DspSync.{DspSync}
 use Rattle.dsp.specs.declared.DspSequencer.{DspSequencer}
 use Rattle.dsp.specs.declared.DspTaken.{DspTaken}
 
--- new polls the Dsp; no reading has been accepted
+-- new polls the Dsp; no reading has been accepted, and no entry ticked
 abbrev pub begun : Answer DspSequencer
-begun = record { outcome = Ok (Some (status_poll false BusAddr.Dsp)); seq = record { state = steps.begun; last = 0 } }
+begun = record { outcome = Ok (Some (status_poll false BusAddr.Dsp)); seq = record { state = steps.begun; last = 0; ticks = stored [] } }
 
 -- ---- a feed, a check
 
-abbrev pub accepted : Moved DspState → ℕ → Answer DspSequencer
-accepted w t = record { outcome = Ok w.action; seq = record { state = w.state; last = t } }
+-- the ticks before; what the event does; its reading, and how it ticks an entry if it ticks one
+abbrev pub accepted : Ticks → Moved DspState → Tick → Answer DspSequencer
+accepted ts w k = record { outcome = Ok w.action; seq = record { state = w.state; last = k.reading; ticks = then_tick ts w.ticked k } }
 
 -- an event by the table of a model, if the outcome is that it is accepted
 abbrev pub answered : DeviceModel → Result (Unit {0}) Refusal → DspSequencer → Event Envelope → Answer DspSequencer
-answered m o s e = judged o (accepted (steps.advance m s.state e) (reading e)) (refused s)
+answered m o s e = judged o (accepted s.ticks (steps.advance m s.state e) (tick_of (λ v. v) e)) (refused s)
 
 abbrev pub fed_to : DspSequencer → Envelope → ℕ → Answer DspSequencer
 fed_to s e t = answered (model_in s.state.replies.dev_info) (feed_outcome e.text e.payload s.last t) s (fed e t)
@@ -91,5 +97,11 @@ taken s = record {
   seq = record {
     state = record { step = s.state.step; replies = with_nack None s.state.replies; deadline = s.state.deadline };
     last = s.last;
+    ticks = s.ticks;
   };
 }
+
+-- ---- the text of its sheet
+
+abbrev pub sheet_of : DspSequencer → List ℕ
+sheet_of s = sheet StartUp.Dsp (kept s.ticks)

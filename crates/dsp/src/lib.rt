@@ -4,7 +4,8 @@
 #![tactic(auto)]
 
 ghost use Rattle.std.specs.Prelude.{◌≡◌};
-ghost use Rattle.dsp.specs.Answers.{begun, fed_to, polled, accepted, sync_of, finished, taken};
+ghost use Rattle.sheet.specs.Sheet.{answered, written};
+ghost use Rattle.dsp.specs.Answers.{begun, fed_to, polled, accepted, sync_of, finished, sheet_of, taken};
 
 use device::model::DeviceModel;
 use dsp_steps::DspState;
@@ -15,12 +16,15 @@ use protocol::{
 };
 use requests::status_poll;
 use sequence::{Answer, Moved, accept_check, accept_feed};
+use sheet::{SheetRefusal, StartUp, Tick, Ticks};
 
 #[derive(Clone, Copy)]
 pub struct DspSequencer {
     pub state: DspState,
     // the last accepted reading
     pub last: u64,
+    // of the entries that are ticked
+    pub ticks: Ticks,
 }
 
 #[derive(Clone, Copy)]
@@ -64,14 +68,15 @@ impl From<DspReplies> for DspSync {
     }
 }
 
-// An accepted call's answer, `now` being its reading. Each sequencer with a clock has this of its own: a `Timed<S>` for both could have
-// no methods in their crates.
-fn accepted(moved: Moved<DspState>, now: u64) -> Answer<DspSequencer>
-    ensures { result ≡ accepted moved now }
+// An accepted call's answer, `tick` being its reading, and how it ticks an entry if it ticks one. Each sequencer with a clock has this of its own: a
+// `Timed<S>` for both could have no methods in their crates.
+fn accepted(ticks: Ticks, moved: Moved<DspState>, tick: Tick) -> Answer<DspSequencer>
+    ensures { result ≡ accepted ticks moved tick }
 {
     let seq = DspSequencer {
         state: moved.state,
-        last: now,
+        last: tick.reading,
+        ticks: ticks.then(moved.ticked, tick),
     };
     Answer::accepted(moved.action, seq)
 }
@@ -83,6 +88,7 @@ impl DspSequencer {
         let seq = DspSequencer {
             state: DspState::new(),
             last: 0,
+            ticks: Ticks::none(),
         };
         Answer::accepted(Some(status_poll(false, BusAddr::Dsp)), seq)
     }
@@ -108,7 +114,7 @@ impl DspSequencer {
                 let moved = self
                     .state
                     .feed(type_id, message, params, text, payload, now);
-                accepted(moved, now)
+                accepted(self.ticks, moved, Tick::fed(message, now))
             }
             _ => Answer::accepted(None, DspSequencer { last: now, ..self }),
         }
@@ -120,7 +126,7 @@ impl DspSequencer {
         if let Err(refusal) = accept_check(self.last, now) {
             return Answer::refused(refusal, self);
         }
-        accepted(self.state.check(now), now)
+        accepted(self.ticks, self.state.check(now), Tick::checked(now))
     }
 
     // The result, once Done.
@@ -140,5 +146,15 @@ impl DspSequencer {
         let mut seq = self;
         let refused = seq.state.replies.refused.take();
         DspTaken { refused, seq }
+    }
+
+    /// The sheet of the entries ticked so far, before Done too: a line each, written into the part of `buf` that begins at place `at` and
+    /// reaches to the buffer's end. Answers how many bytes that is; the bytes outside of it stay. Refused with 5 where the part is shorter
+    /// than the sheet or the place is past the buffer's end, and then nothing is written. The Rust has no such call.
+    pub fn sheet(&self, buf: &mut [u8], at: usize) -> Result<usize, SheetRefusal>
+        ensures answer { result ≡ answered (sheet_of self.now) at buf.old }
+        ensures buffer { buf.new ≡ written (sheet_of self.now) at buf.old }
+    {
+        sheet::write(StartUp::Dsp, &self.ticks, buf, at)
     }
 }

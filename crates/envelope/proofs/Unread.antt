@@ -67,7 +67,7 @@ avr_config s e = at s.step
 pub pi : (s : PiSequencer) (e : Envelope) → Same (pis.fed_to s) e
 pi s e = at s.step
   where
-    at : (k : PiStep) → Same (pis.fed_to (record { step = k; replies = s.replies })) e
+    at : (k : PiStep) → Same (pis.fed_to (record { step = k; replies = s.replies; ticks = s.ticks })) e
     at P.WaitStatus = refl
     at P.WaitDevInfo = refl
     at P.WaitParam0A = refl

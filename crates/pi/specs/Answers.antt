@@ -13,6 +13,10 @@ use Rattle.sequence.specs.Events.{Envelope, Event, fed}
 use Rattle.sequence.specs.declared.Moved.{Moved}
 use Rattle.sequence.specs.declared.Answer.{Answer}
 use Rattle.sequence.specs.Rows.{State, heard_at, heard, judged, refused}
+use Rattle.sheet.specs.declared.StartUp.{StartUp}
+use Rattle.sheet.specs.declared.Ticks.{Ticks}
+use Rattle.sheet.specs.Sheet.{sheet}
+use Rattle.sheet.specs.Ticks.{tick_of, stored, then_tick, kept}
 use Rattle.pi_table.specs.declared.PiStep.{PiStep}
 use Rattle.pi_table.specs.declared.PiStep.TheVariants.{WaitStatus, WaitDevInfo, WaitParam0A, WaitCamConfig1, WaitCamConfig2, WaitNetConfig, WaitNetConfigPw, WaitParams, Done}
 use Rattle.pi_table.specs.declared.PiReplies.{PiReplies}
@@ -21,19 +25,23 @@ use Rattle.pi.specs.declared.PiSync.{PiSync}
 use Rattle.pi_table.specs.Stores.{no_replies}
 use Rattle.pi_table.specs.Table.{PiRow, row, next}
 
--- new polls the Pi
+-- new polls the Pi; no entry is ticked
 abbrev pub begun : Answer PiSequencer
-begun = record { outcome = Ok (Some (status_poll true BusAddr.Pi)); seq = record { step = WaitStatus; replies = no_replies } }
+begun = record { outcome = Ok (Some (status_poll true BusAddr.Pi)); seq = record { step = WaitStatus; replies = no_replies; ticks = stored [] } }
 
 -- the sequencer as the common rows have it, and back
 abbrev pub view : PiSequencer → State PiStep PiReplies
 view s = record { step = s.step; replies = s.replies; deadline = None }
 
-abbrev pub made : Moved (State PiStep PiReplies) → Answer PiSequencer
-made w = record { outcome = Ok w.action; seq = record { step = w.state.step; replies = w.state.replies } }
+-- the ticks before; the event, and what it does
+abbrev pub made : Ticks → Event Envelope → Moved (State PiStep PiReplies) → Answer PiSequencer
+made ts e w = record {
+  outcome = Ok w.action;
+  seq = record { step = w.state.step; replies = w.state.replies; ticks = then_tick ts w.ticked (tick_of (λ v. v) e) };
+}
 
 abbrev pub advance : PiSequencer → Event Envelope → Answer PiSequencer
-advance s e = made (heard row next (view s) e)
+advance s e = made s.ticks e (heard row next (view s) e)
 
 abbrev pub fed_to : PiSequencer → Envelope → Answer PiSequencer
 fed_to s e = judged (bytes_outcome e.text e.payload) (advance s (fed e 0)) (refused s)
@@ -44,7 +52,7 @@ sent id m text payload = fed (record { src = BusAddr.Pi; type_id = id; message =
 
 -- one step's part of it: the row r, which r', awaited at step k, follows
 abbrev pub arm_at : PiRow → PiStep → PiRow → PiSequencer → Event Envelope → Answer PiSequencer
-arm_at r k r' s e = made (heard_at r k r' (view s) e)
+arm_at r k r' s e = made s.ticks e (heard_at r k r' (view s) e)
 
 -- ---- the result
 
@@ -65,3 +73,8 @@ is_done Done = true
 
 abbrev pub finished : PiSequencer → Result PiSync Refusal
 finished s = judged (outcome (lowest (result_refusals (is_done s.step)))) (Ok (sync_of s.replies)) (λ r. Err r)
+
+-- ---- the text of its sheet
+
+abbrev pub sheet_of : PiSequencer → List ℕ
+sheet_of s = sheet StartUp.Pi (kept s.ticks)

@@ -8,17 +8,22 @@ ghost use Rattle.sequence.specs.Rows.{past};
 ghost use Rattle.pi_table.specs.declared.PiStep.{PiStep};
 ghost use Rattle.pi_table.specs.Stores.{no_replies};
 ghost use Rattle.pi_table.specs.Table.{entry2, entry5, entry7, param_row, next, request};
-ghost use Rattle.pi.specs.Answers.{begun, advance, arm_at, sent, fed_to, sync_of, finished};
+ghost use Rattle.sheet.specs.Sheet.{answered, written};
+ghost use Rattle.sheet.specs.Ticks.{how_of, with_tick};
+ghost use Rattle.pi.specs.Answers.{begun, advance, arm_at, sent, fed_to, sync_of, finished, sheet_of};
 
 use net_config::{after_zero, before_zero};
 use pi_table::{PiReplies, PiStep, request};
 use protocol::{BusAddr, CamConfig, DevInfoResp, Message, Refusal, Stored};
 use sequence::Answer;
+use sheet::{SheetRefusal, StartUp, Tick, Ticks};
 
 #[derive(Clone, Copy)]
 pub struct PiSequencer {
     pub step: PiStep,
     pub replies: PiReplies,
+    // of the entries that are ticked
+    pub ticks: Ticks,
 }
 
 #[repr(C)]
@@ -57,21 +62,27 @@ impl From<PiReplies> for PiSync {
 
 // ---- an envelope from the Pi, by step
 
-// A step begins. Each crate of steps has this of its own, since the state that it makes has fields of its own.
-fn moved(step: PiStep, replies: PiReplies) -> Answer<PiSequencer>
-    ensures { result ≡ record { outcome = Ok (request step); seq = record { step = step; replies = replies } } }
-{
-    Answer::accepted(request(step), PiSequencer { step, replies })
-}
-
 impl PiSequencer {
+    // A step begins, by this message. Each crate of steps has this of its own, since the state that it makes has fields of its own.
+    fn moved(self, message: Message, step: PiStep, replies: PiReplies) -> Answer<PiSequencer>
+        ensures { result ≡ record { outcome = Ok (request step); seq = record { step = step; replies = replies; ticks = with_tick self.ticks (record { reading = 0; how = how_of message }) } } }
+    {
+        let seq = PiSequencer {
+            step,
+            replies,
+            ticks: self.ticks.with(Tick::fed(message, 0)),
+        };
+        Answer::accepted(request(step), seq)
+    }
+
     fn wait_dev_info(self, message: Message, text: &[u8], payload: &[u8]) -> Answer<PiSequencer>
         ensures { result ≡ arm_at entry2 PiStep.WaitParam0A past self (sent 0 message text.now payload.now) }
     {
         let Message::DevInfoResp = message else {
             return Answer::accepted(None, self);
         };
-        moved(
+        self.moved(
+            message,
             PiStep::WaitParam0A,
             PiReplies {
                 dev_info: Some(DevInfoResp::from_slices(text, payload)),
@@ -86,7 +97,8 @@ impl PiSequencer {
         let Message::CamConfig(cam_config) = message else {
             return Answer::accepted(None, self);
         };
-        moved(
+        self.moved(
+            message,
             PiStep::WaitNetConfig,
             PiReplies {
                 cam_config: Some(cam_config),
@@ -101,7 +113,8 @@ impl PiSequencer {
         let Message::NetConfigResp = message else {
             return Answer::accepted(None, self);
         };
-        moved(
+        self.moved(
+            message,
             PiStep::WaitParams { idx: 0 },
             PiReplies {
                 ssid: before_zero(text),
@@ -116,9 +129,9 @@ impl PiSequencer {
     {
         match message {
             Message::ParamValue(_) if idx < 8 => {
-                moved(PiStep::WaitParams { idx: idx + 1 }, self.replies)
+                self.moved(message, PiStep::WaitParams { idx: idx + 1 }, self.replies)
             }
-            Message::ParamValue(_) => moved(PiStep::Done, self.replies),
+            Message::ParamValue(_) => self.moved(message, PiStep::Done, self.replies),
             _ => Answer::accepted(None, self),
         }
     }
@@ -137,24 +150,24 @@ impl PiSequencer {
         match self.step {
             PiStep::WaitStatus => {
                 if let Message::PiStatus = message {
-                    return moved(PiStep::WaitDevInfo, self.replies);
+                    return self.moved(message, PiStep::WaitDevInfo, self.replies);
                 }
             }
             PiStep::WaitDevInfo => return self.wait_dev_info(message, text, payload),
             PiStep::WaitParam0A => {
                 if let Message::ParamValue(_) = message {
-                    return moved(PiStep::WaitCamConfig1, self.replies);
+                    return self.moved(message, PiStep::WaitCamConfig1, self.replies);
                 }
             }
             PiStep::WaitCamConfig1 => {
                 if let Message::CamConfig(_) = message {
-                    return moved(PiStep::WaitCamConfig2, self.replies);
+                    return self.moved(message, PiStep::WaitCamConfig2, self.replies);
                 }
             }
             PiStep::WaitCamConfig2 => return self.wait_cam_config2(message),
             PiStep::WaitNetConfig => {
                 if let Message::NetConfigResp = message {
-                    return moved(PiStep::WaitNetConfigPw, self.replies);
+                    return self.moved(message, PiStep::WaitNetConfigPw, self.replies);
                 }
             }
             PiStep::WaitNetConfigPw => return self.wait_net_config_pw(message, text),
@@ -169,7 +182,12 @@ impl PiSequencer {
     pub fn new() -> Answer<PiSequencer>
         ensures { result ≡ begun }
     {
-        moved(PiStep::WaitStatus, no_replies())
+        let seq = PiSequencer {
+            step: PiStep::WaitStatus,
+            replies: no_replies(),
+            ticks: Ticks::none(),
+        };
+        Answer::accepted(request(PiStep::WaitStatus), seq)
     }
 
     // Numbers and slices one by one, as the scope has it; the struct that refers to them is crate envelope's.
@@ -200,5 +218,15 @@ impl PiSequencer {
             PiStep::Done => Ok(PiSync::from(self.replies)),
             _ => Err(Refusal::NotDone),
         }
+    }
+
+    /// The sheet of the entries ticked so far, before Done too: a line each, with reading 0, written into the part of `buf` that begins at
+    /// place `at` and reaches to the buffer's end. Answers how many bytes that is; the bytes outside of it stay. Refused with 5 where the
+    /// part is shorter than the sheet or the place is past the buffer's end, and then nothing is written. The Rust has no such call.
+    pub fn sheet(&self, buf: &mut [u8], at: usize) -> Result<usize, SheetRefusal>
+        ensures answer { result ≡ answered (sheet_of self.now) at buf.old }
+        ensures buffer { buf.new ≡ written (sheet_of self.now) at buf.old }
+    {
+        sheet::write(StartUp::Pi, &self.ticks, buf, at)
     }
 }
