@@ -6,28 +6,35 @@ use mathlib.Core.Path.{◌≡◌, refl, sym, ◌∙◌, ap}
 use mathlib.Core.Bool.{Bool, true, false, true≢false}
 use mathlib.Core.List.{List, [], ◌∷◌, ◌++◌}
 use lib.IntN.{ℤ}
+use native.Mathlib.Omega.{arith}
 use lib.ListN.{length}
 use Rattle.protocol.specs.declared.BusAddr.{BusAddr}
 use Rattle.protocol.specs.declared.Message.{Message}
 use Rattle.protocol.specs.declared.ParamData.{ParamData}
 use Rattle.protocol.specs.declared.Refusal.{Refusal}
 use Rattle.protocol.specs.declared.AvrStatus.{AvrStatus}
-use Rattle.std.specs.Prelude.{Some, None, Ok, Err}
+use Rattle.std.specs.Prelude.{◌+◌, ◌<◌, Some, None, Ok, Err, codes, decimal, replicate}
+use Rattle.std.proofs.lemmas.Fmt.{decimal_digit, decimal_step}
 use Rattle.protocol.specs.Stored.{stored}
 use Rattle.device.specs.declared.model.DeviceModel.{DeviceModel}
 use Rattle.device.specs.Model as models
 use Rattle.matching.specs.Promise.{after_all, events, Matched, First}
 use Rattle.matching.proofs.Called.{run_rises}
+use Rattle.matching.proofs.Kept.{so_far}
 use Rattle.matching.proofs.Machine.{leftmost}
 use Rattle.matching.proofs.Leftmost.{leftmost_matching, leftmost_earliest}
-use Rattle.sequence.specs.Events.{Event, checked, reading}
+use Rattle.sequence.specs.Events.{Event, checked, reading, plain}
 use Rattle.sequence.specs.Calls.{feed, check, ask}
+use Rattle.sheet.specs.declared.How.{How}
+use Rattle.sheet.specs.declared.StartUp.{StartUp}
+use Rattle.sheet.specs.Sheet as text
+use Rattle.sheet.specs.Ticks.{kept}
 use Rattle.avr_table.specs.declared.AvrStep.{AvrStep}
 use Rattle.avr_table.specs.Stores.{Dated}
 use Rattle.avr_table.specs.Table.{table}
 use Rattle.avr.specs.declared.AvrSequencer.{AvrSequencer}
-use Rattle.avr.specs.Answers.{begun, finished, is_done}
-use Rattle.avr.specs.Calls.{AvrCall, into_result, after, event}
+use Rattle.avr.specs.Answers.{begun, finished, is_done, sheet_of}
+use Rattle.avr.specs.Calls.{AvrCall, into_result, sheet, after, event}
 use Rattle.avr_runs.proofs.States.{sequencer}
 use Rattle.avr_runs.proofs.Whole.{anti, right}
 
@@ -68,6 +75,12 @@ module _ (m : DeviceModel) where
 
   not_yet : (cs : List AvrCall) → is_done (state cs).state.step ≡ false → Off cs → ⊥
   not_yet cs h d = true≢false (ap is_done (sym ((right m cs).ends.done.1 d)) ∙ h)
+
+digit : (n : ℕ) → n < 10 → decimal n ≡ (48 + n) ∷ []
+digit = decimal_digit
+
+eleven : decimal 11 ≡ codes "11"
+eleven = decimal_step 11 (omega arith) (omega arith) ∙ rw (digit 1 (omega arith)) refl
 
 module _ (a b : AvrStatus) where
   -- up to the configuration: of two statuses and two device infos the second is kept
@@ -188,3 +201,59 @@ module _ (a b : AvrStatus) where
 
   pub xi_done : (state models.xi bare_day).state.step ≡ AvrStep.Done
   xi_done = bare_done false true
+
+  -- ---- the sheet: a refused poll, the repoll's check, another device's status and a refused call are none of its lines
+
+  abbrev sheet_day : List AvrCall
+  sheet_day =
+      reply (Message.ConfigNack (record { bus_addr = 0x30; acked_cmd = 0x2A })) 1 ∷ check 1_000_000_001
+      ∷ feed (record { envelope = plain BusAddr.Dsp (Message.AvrStatus a) []; wall = 0 }) 1_000_000_002 ∷ reply (Message.AvrStatus b) 1_000_000_001
+      ∷ reply (Message.AvrStatus a) 1_000_000_003 ∷ ask (sheet [] 0) ∷ reply (Message.AvrStatus b) 1_000_000_004 ∷ []
+
+  pub sheet_ticks : kept (state models.xi sheet_day).ticks
+      ≡ record { reading = 1_000_000_003; how = How.Reply } ∷ record { reading = 1_000_000_004; how = How.Reply } ∷ []
+  sheet_ticks = (right models.xi sheet_day).ticks.each 2 (3 ∷ 4 ∷ []) (so_far (checked 0) (anti models.xi) (sequencer models.xi) None sheet_day)
+
+  -- of a calibration that isn't answered the check is a line
+  pub mevo_ticks : kept (state models.mevo cal_early).ticks
+      ≡ record { reading = 1; how = How.Reply } ∷ record { reading = 2; how = How.Reply } ∷ record { reading = 3; how = How.Reply }
+      ∷ record { reading = 4; how = How.Reply } ∷ record { reading = 6; how = How.Reply } ∷ record { reading = 7; how = How.Reply }
+      ∷ record { reading = 8; how = How.Reply } ∷ record { reading = 10; how = How.Reply } ∷ record { reading = 2_000_000_010; how = How.Check }
+      ∷ record { reading = 2_000_000_011; how = How.Reply } ∷ record { reading = 2_000_000_012; how = How.Reply } ∷ []
+  mevo_ticks =
+      (right models.mevo cal_early).ticks.each 11 (0 ∷ 1 ∷ 2 ∷ 3 ∷ 5 ∷ 6 ∷ 7 ∷ 8 ∷ 10 ∷ 11 ∷ 12 ∷ [])
+      (so_far (checked 0) (anti models.mevo) (sequencer models.mevo) None cal_early)
+
+  -- a Xi's last line has the number 8; and what the call for a sheet answers that fits exactly
+  pub xi_ticks : kept (state models.xi bare_day).ticks
+      ≡ record { reading = 1; how = How.Reply } ∷ record { reading = 2; how = How.Reply } ∷ record { reading = 3; how = How.Reply }
+      ∷ record { reading = 4; how = How.Reply } ∷ record { reading = 6; how = How.Reply } ∷ record { reading = 7; how = How.Reply }
+      ∷ record { reading = 8; how = How.Reply } ∷ record { reading = 11; how = How.Reply } ∷ []
+  xi_ticks = (right models.xi bare_day).ticks.each 8 (places models.xi bare_day) (so_far (checked 0) (anti models.xi) (sequencer models.xi) None bare_day)
+
+  abbrev xi_lines : List ℕ
+  xi_lines = codes "A,1,1,R\nA,2,2,R\nA,3,3,R\nA,4,4,R\nA,5,6,R\nA,6,7,R\nA,7,8,R\nA,8,11,R\n"
+
+  pub xi_text : text.sheet StartUp.Avr (kept (state models.xi bare_day).ticks) ≡ xi_lines
+  xi_text =
+      ap (text.sheet StartUp.Avr) xi_ticks
+      ∙ rw (
+        digit 1 (omega arith),
+        digit 2 (omega arith),
+        digit 3 (omega arith),
+        digit 4 (omega arith),
+        digit 5 (omega arith),
+        digit 6 (omega arith),
+        digit 7 (omega arith),
+        digit 8 (omega arith),
+        eleven,
+      ) refl
+
+  abbrev lent : List ℕ
+  lent = replicate 65 0x2E
+
+  pub xi_given : text.given (sheet_of (state models.xi bare_day)) 0 lent ≡ (Ok 65, xi_lines)
+  xi_given =
+      ((right models.xi (bare_day ++ ask (sheet lent 0) ∷ [])).sheets lent 0).each bare_day [] refl 8 (places models.xi bare_day)
+      (so_far (checked 0) (anti models.xi) (sequencer models.xi) None bare_day)
+      ∙ ap (λ t. text.given t 0 lent) (sym (ap (text.sheet StartUp.Avr) xi_ticks) ∙ xi_text)

@@ -5,7 +5,7 @@ use Prim.Native.Nat.{ℕ, zero, suc, ◌≤◌, ◌<◌}
 use native.Mathlib.Omega.{arith}
 use mathlib.Core.Path.{◌≡◌, refl, sym, ap, ◌∙◌}
 use mathlib.Core.Bool.{Bool, true, false, cond, ◌&&◌, true≢false}
-use mathlib.Core.List.{List, [], ◌∷◌, ◌++◌}
+use mathlib.Core.List.{List, [], ◌∷◌, ◌++◌, map}
 use lib.Dec.{leb, ltb, eqb}
 use Rattle.protocol.specs.Addr.{byte_of}
 use Rattle.protocol.specs.Kinds.{tag}
@@ -28,13 +28,16 @@ use Rattle.sequence.proofs.Events.{rises, judge}
 use Rattle.sequence.proofs.Standing as rows
 use Rattle.avr_table.specs.declared.AvrStep.{AvrStep}
 use Rattle.avr_table.specs.declared.AvrStep.TheVariants.{WaitStatus1, WaitStatus2, WaitDevInfo1, WaitDevInfo2, WaitParam0C, WaitParam0D, WaitConfig, WaitFactoryCal, WaitIfCal, WaitAvrConfig, WaitParam64, WaitTimeSync, Done}
+use Rattle.sheet.specs.declared.Tick.{Tick}
+use Rattle.sheet.specs.Ticks.{tick_of, stored, then_tick}
+use Rattle.sheet.proofs.Stored.{next as kept_next}
 use Rattle.avr_steps.specs.declared.AvrState.{AvrState}
 use Rattle.avr_table.specs.Stores.{Dated, Held, env, no_replies, status_poll}
 use Rattle.avr_table.specs.Table.{row, next, steps_for, table}
 use Rattle.avr_steps.specs.Answers as steps
 use Rattle.avr.specs.declared.AvrSequencer.{AvrSequencer}
 use Rattle.avr.specs.Answers.{answered, is_done}
-use Rattle.avr.specs.Calls.{AvrCall, into_result, after, event}
+use Rattle.avr.specs.Calls.{AvrCall, into_result, sheet, after, event}
 
 abbrev pub E : Type 0
 E = Event Dated
@@ -104,8 +107,11 @@ module _ (m : DeviceModel) where
   abbrev held : List E → Option ℕ → AvrState
   held es x = steps.unview m (standing es x)
 
+  abbrev pub ticks : E → Tick
+  ticks = tick_of env
+
   abbrev pub state_of : List E → ℕ → Option ℕ → AvrSequencer
-  state_of es t x = record { state = held es (pend es x); last = t }
+  state_of es t x = record { state = held es (pend es x); last = t; ticks = stored (map ticks es) }
 
   -- what an event that ticks nothing makes of it
   abbrev aside : E → Option ℕ → Option ℕ
@@ -123,6 +129,7 @@ module _ (m : DeviceModel) where
   extra es t x (feed d u) = kept_all es x (event t (feed d u))
   extra es t x (check u) = kept_all es x (event t (check u))
   extra es t x (ask into_result) = x
+  extra es t x (ask (sheet buf at)) = x
 
   -- ---- the rows, where the repoll isn't asked
 
@@ -140,6 +147,11 @@ module _ (m : DeviceModel) where
   advances es x e h =
       rw (fresh es x e)
       (ap (steps.unview m) (rows.moves (row m) (next m) Done (steps_for m) first put keep path es x e (omega arith)))
+
+  advances_tells : (es : List E) (x : Option ℕ) (e : E) → reading e ≤ 18_446_744_071_709_551_615
+      → (steps.advance (held es x) e).ticked ≡ machine.ticks reading (table m) es e
+  advances_tells es x e h =
+      rw (fresh es x e) (rows.tells (row m) (next m) Done (steps_for m) first put keep path es x e (omega arith))
 
   keep_clear : (k : AvrStep) (e : E) → keep k e None ≡ None
   keep_clear WaitStatus1 e = refl
@@ -176,6 +188,10 @@ module _ (m : DeviceModel) where
       go true p q = rw (eqb-true k 4 p)
       go false p q = absurd (true≢false (sym q))
   not_both false k c h = refl
+
+  -- whether it says that an entry was ticked
+  abbrev Tells : List E → Option ℕ → E → Type 0
+  Tells es x e = (steps.answered (held es (pend es x)) e).ticked ≡ machine.ticks reading (table m) es e
 
   abbrev Goes : List E → Option ℕ → E → Type 0
   Goes es x e = (steps.answered (held es (pend es x)) e).state ≡ held (machine.heard reading (table m) es e) (pend (machine.heard reading (table m) es e) (kept es x e))
@@ -231,6 +247,19 @@ module _ (m : DeviceModel) where
         go true p = rw (w.no_nack_lem d u p, w.small)
         go false p = advances es x (fed d u) h ∙ rowed (machine.ticks reading (table m) es (fed d u)) refl
 
+    awaiting_tells : (e : E) → reading e ≤ 18_446_744_071_709_551_615 → Tells es x e
+    awaiting_tells (checked u) h = rw (w.small, w.unchecked u) (go (reached x u))
+      where
+        go : (b : Bool) → (cond b (steps.sends status_poll (steps.with_repoll (held es x) None)) (steps.advance (held es x) (checked u))).ticked ≡ false
+        go true = refl
+        go false = advances_tells es x (checked u) h ∙ w.unchecked u
+    awaiting_tells (fed d u) h = rw (w.small, w.polls, and_true (steps.is_nack (fed d u))) (go (steps.is_nack (fed d u)) refl)
+      where
+        go : (b : Bool) → steps.is_nack (fed d u) ≡ b
+            → (cond b (steps.will_repoll (held es x) (fed d u)) (steps.advance (held es x) (fed d u))).ticked ≡ machine.ticks reading (table m) es (fed d u)
+        go true p = sym (w.no_nack_lem d u p)
+        go false p = advances_tells es x (fed d u) h
+
   -- ---- later
 
   late_order : (k : ℕ) → 2 ≤ k → leb (steps.order (get_or (steps_for m) k Done)) 2 ≡ false
@@ -271,12 +300,30 @@ module _ (m : DeviceModel) where
       rw (le-ltb (length es) 2 l, grown es (fed d u) l, late_order (length es) l, and_false (steps.is_nack (fed d u)))
       (advances es None (fed d u) h ∙ ap (held (machine.heard reading (table m) es (fed d u))) (none_kept es (fed d u)))
 
+  afterwards_tells : (es : List E) (x : Option ℕ) (e : E) → 2 ≤ length es → reading e ≤ 18_446_744_071_709_551_615 → Tells es x e
+  afterwards_tells es x (checked u) l h = rw (le-ltb (length es) 2 l) (advances_tells es None (checked u) h)
+  afterwards_tells es x (fed d u) l h =
+      rw (le-ltb (length es) 2 l, late_order (length es) l, and_false (steps.is_nack (fed d u))) (advances_tells es None (fed d u) h)
+
+  tells : (es : List E) (x : Option ℕ) (e : E) → reading e ≤ 18_446_744_071_709_551_615 → Tells es x e
+  tells [] x e h = awaiting_tells [] first_status x e h
+  tells (a ∷ []) x e h = awaiting_tells (a ∷ []) (second_status a) x e h
+  tells (a ∷ b ∷ es) x e h = afterwards_tells (a ∷ b ∷ es) x e (omega arith) h
+
   goes : (es : List E) (x : Option ℕ) (e : E) → reading e ≤ 18_446_744_071_709_551_615 → Goes es x e
   goes [] x e h = awaiting [] first_status x e h
   goes (a ∷ []) x e h = awaiting (a ∷ []) (second_status a) x e h
   goes (a ∷ b ∷ es) x e h = afterwards (a ∷ b ∷ es) x e (omega arith) h
 
   -- ---- a call
+
+  -- an accepted event moves the state, and the ticks with it
+  accepts : (es : List E) (t : ℕ) (x : Option ℕ) (e : E) → reading e ≤ 18_446_744_071_709_551_615
+      → (answered (Ok tt) (state_of es t x) e).seq ≡ state_of (machine.heard reading (table m) es e) (reading e) (kept es x e)
+  accepts es t x e h =
+      let moved = goes es x e h in
+      let told = ap (λ (b : Bool). then_tick (stored (map ticks es)) b (ticks e)) (tells es x e h) ∙ kept_next ticks es e (machine.ticks reading (table m) es e) in
+      λ i. record { state = moved i; last = reading e; ticks = told i }
 
   abbrev Is : List E → ℕ → Option ℕ → Answer AvrSequencer → List E → Type 0
   Is es t x f l = f.seq ≡ state_of (machine.ticked_from reading (table m) es l) (clock reading t l) (kept_all es x l)
@@ -288,15 +335,16 @@ module _ (m : DeviceModel) where
       let v = d.envelope in
       judge (Is es t x) (answered (Ok tt) s (fed d u)) (refused s) (fed d u) (feed_outcome v.text v.payload t u)
       (none (feed_refusals v.text v.payload t u)) (feed_accepted v.text v.payload t u)
-      (λ p. ap (λ (z : AvrState). record { state = z; last = u }) (goes es x (fed d u) (feed_fits v.text v.payload t u p).time.small))
+      (λ p. accepts es t x (fed d u) (feed_fits v.text v.payload t u p).time.small)
       (λ o. refl)
   one es t x (check u) =
       let s = state_of es t x in
       judge (Is es t x) (answered (Ok tt) s (checked u)) (refused s) (checked u) (check_outcome t u)
       (none (check_refusals t u)) (check_accepted t u)
-      (λ p. ap (λ (z : AvrState). record { state = z; last = u }) (goes es x (checked u) (check_fits t u p).small))
+      (λ p. accepts es t x (checked u) (check_fits t u p).small)
       (λ o. refl)
   one es t x (ask into_result) = refl
+  one es t x (ask (sheet buf at)) = refl
 
   pub sequencer : Called reading (table m) after event state_of extra
   sequencer = record { rises = events_rise reading event (rises env) 0; one = λ es t x c h. one es t x c }

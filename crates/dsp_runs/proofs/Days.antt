@@ -17,19 +17,25 @@ use Rattle.protocol.specs.Stored.{stored}
 use Rattle.device.specs.declared.model.DeviceModel.{DeviceModel}
 use Rattle.device.specs.Model.{model_of}
 use Rattle.device.specs.Model as models
-use Rattle.matching.specs.Promise.{after_all, events, Matched, First, tick}
+use Rattle.matching.specs.Promise.{after_all, events, Matched, First, SoFar, tick}
 use Rattle.matching.proofs.Called.{run_rises}
 use Rattle.matching.proofs.Machine.{leftmost}
 use Rattle.matching.proofs.Leftmost.{leftmost_matching, leftmost_earliest, earliest_unique}
+use Rattle.matching.proofs.Kept.{so_far}
 use Rattle.sequence.specs.Events.{Envelope, Event, checked, reading}
 use Rattle.sequence.specs.Calls.{feed, check, ask}
 use Rattle.sequence.proofs.Standing.{table_antitone}
+use Rattle.sheet.specs.declared.How.{How}
+use Rattle.sheet.specs.declared.StartUp.{StartUp}
+use Rattle.sheet.specs.Sheet as sheets
+use Rattle.sheet.specs.Ticks.{kept}
+use Rattle.sheet.proofs.Trials as trials
 use Rattle.dsp_table.specs.declared.DspStep.{DspStep}
 use Rattle.dsp_table.specs.Table.{row, next, steps_for, table}
 use Rattle.dsp.specs.declared.DspSequencer.{DspSequencer}
 use Rattle.dsp.specs.declared.DspSync.{DspSync}
-use Rattle.dsp.specs.Answers.{begun, finished, taken, is_done}
-use Rattle.dsp.specs.Calls.{DspCall, into_result, take_refused, after, event}
+use Rattle.dsp.specs.Answers.{begun, finished, taken, is_done, sheet_of}
+use Rattle.dsp.specs.Calls.{DspCall, into_result, take_refused, sheet, after, event}
 use Rattle.dsp_runs.specs.Theorem.{opening, payload_in, Names, Right}
 use Rattle.dsp_runs.proofs.States.{sequencer}
 use Rattle.dsp_runs.proofs.OneModel.{opening_antitone}
@@ -273,3 +279,52 @@ both_named = sym ((right.named both_day).1 (opened both_day) (opened_earliest bo
 pub both_ticked_off : Off models.mevo both_day
 unfolding stored
 both_ticked_off = (right.right models.mevo both_day (names models.mevo both_day refl refl)).ends.done.0 refl
+
+-- ---- the sheet: a status at 5 s, and its query passed by a check at 7 s, after one that is too early; it is asked for before Done
+
+abbrev sheet_early : List DspCall
+sheet_early = check 4_000_000_000 ∷ status 5_000_000_000 ∷ check 6_999_999_999 ∷ check 7_000_000_000 ∷ []
+
+abbrev lent : List ℕ
+lent = codes "........................................."
+
+abbrev sheet_day : List DspCall
+sheet_day = sheet_early ++ ask (sheet lent 3) ∷ []
+
+sheet_right : Right models.mevo sheet_day
+sheet_right = right.right models.mevo sheet_day (right.agreed models.mevo sheet_day (tt, (not, (tt, (tt, tt)))))
+
+sheet_places : SoFar reading (checked 0) event begun.seq after (table models.mevo) sheet_day 2 (1 ∷ 3 ∷ [])
+sheet_places =
+    let s = so_far (checked 0) (table_antitone (row models.mevo) (next models.mevo) DspStep.Done (steps_for models.mevo)) (sequencer models.mevo) None sheet_day in
+    record { inside = s.inside; first = s.first; last = s.last }
+
+sheet_early_places : SoFar reading (checked 0) event begun.seq after (table models.mevo) sheet_early 2 (1 ∷ 3 ∷ [])
+sheet_early_places =
+    let s = so_far (checked 0) (table_antitone (row models.mevo) (next models.mevo) DspStep.Done (steps_for models.mevo)) (sequencer models.mevo) None sheet_early in
+    record { inside = s.inside; first = s.first; last = s.last }
+
+pub sheet_ticks : kept (state sheet_day).ticks ≡ trials.two_ticks
+sheet_ticks = sheet_right.ticks.each 2 (1 ∷ 3 ∷ []) sheet_places
+
+pub sheet_text : sheets.sheet StartUp.Dsp (kept (state sheet_day).ticks) ≡ codes "D,1,5000000000,R\nD,2,7000000000,K\n"
+sheet_text = ap (sheets.sheet StartUp.Dsp) sheet_ticks ∙ trials.example
+
+-- what the call answers, and the buffer then
+pub sheet_given : sheets.given (sheet_of (state sheet_early)) 3 lent
+    ≡ (Ok 34, codes "...D,1,5000000000,R\nD,2,7000000000,K\n....")
+sheet_given =
+    (sheet_right.sheets lent 3).each sheet_early [] refl 2 (1 ∷ 3 ∷ []) sheet_early_places
+    ∙ ap (λ t. sheets.given t 3 lent) trials.example
+
+-- the nacks of a Xi's query and power mode are such on its sheet
+xi_sheet_places : SoFar reading (checked 0) event begun.seq after (table models.xi) xi_day 8 (0 ∷ 1 ∷ 2 ∷ 3 ∷ 4 ∷ 5 ∷ 6 ∷ 7 ∷ [])
+xi_sheet_places =
+    let s = so_far (checked 0) (table_antitone (row models.xi) (next models.xi) DspStep.Done (steps_for models.xi)) (sequencer models.xi) None xi_day in
+    record { inside = s.inside; first = s.first; last = s.last }
+
+pub xi_ticks : kept (state xi_day).ticks
+    ≡ record { reading = 5; how = How.Reply } ∷ record { reading = 6; how = How.Nack } ∷ record { reading = 7; how = How.Reply }
+    ∷ record { reading = 8; how = How.Reply } ∷ record { reading = 9; how = How.Reply } ∷ record { reading = 10; how = How.Reply }
+    ∷ record { reading = 11; how = How.Reply } ∷ record { reading = 12; how = How.Nack } ∷ []
+xi_ticks = xi.ticks.each 8 (0 ∷ 1 ∷ 2 ∷ 3 ∷ 4 ∷ 5 ∷ 6 ∷ 7 ∷ []) xi_sheet_places

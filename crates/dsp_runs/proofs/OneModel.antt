@@ -28,6 +28,7 @@ use Rattle.sequence.specs.Rows.{test, passes, ticked, idle}
 use Rattle.sequence.specs.Calls.{feed, check, ask}
 use Rattle.sequence.proofs.Acceptance.{accepted, feed_accepted, check_accepted, feed_fits}
 use Rattle.sequence.proofs.Standing as rows
+use Rattle.sheet.specs.Ticks.{tick_of, then_tick}
 use Rattle.dsp_table.specs.declared.DspStep.{DspStep}
 use Rattle.dsp_table.specs.declared.DspStep.TheVariants.{WaitStatus, WaitDspQuery, WaitDevInfo, WaitProdInfo0, WaitProdInfo1, WaitProdInfo2, WaitConfig, WaitPowerMode, Done}
 use Rattle.dsp_steps.specs.declared.DspState.{DspState}
@@ -36,7 +37,7 @@ use Rattle.dsp_steps.specs.Answers.{view, made, advance, arm_at}
 use Rattle.dsp_steps.proofs.Rows.{at_step}
 use Rattle.dsp.specs.declared.DspSequencer.{DspSequencer}
 use Rattle.dsp.specs.Answers.{answered, begun, is_done}
-use Rattle.dsp.specs.Calls.{DspCall, into_result, take_refused, after, event}
+use Rattle.dsp.specs.Calls.{DspCall, into_result, take_refused, sheet, after, event}
 use Rattle.dsp_runs.specs.Theorem.{opening, payload_in, Says, Names}
 use Rattle.dsp_runs.proofs.States.{after_for, sequencer}
 
@@ -137,7 +138,7 @@ accepts : (m : DeviceModel) (s : DspSequencer) (e : Event Envelope) → Knows m 
 accepts m s e h f n =
     let one = same (model_in s.state.replies.dev_info) m s.state e h in
     record {
-      same_seq = ap (λ (w : Moved DspState). record { state = w.state; last = reading e }) one;
+      same_seq = ap (λ (w : Moved DspState). record { state = w.state; last = reading e; ticks = then_tick s.ticks w.ticked (tick_of (λ v. v) e) }) one;
       knows = subst⁻¹ (λ (w : Moved DspState). Knows m w.state) one (event_knows m s.state e f n h);
     }
 
@@ -160,6 +161,7 @@ goes m s (check t) h n =
     (λ p. omega arith) (λ p. n (checked t) (rw p))
 goes m s (ask into_result) h n = record { same_seq = refl; knows = h }
 goes m s (ask take_refused) h n = record { same_seq = refl; knows = h }
+goes m s (ask (sheet buf at)) h n = record { same_seq = refl; knows = h }
 
 begins : (m : DeviceModel) → Knows m begun.seq.state
 begins m l = absurd (true≢false l)

@@ -6,8 +6,8 @@ use native.Mathlib.Omega.{arith}
 use mathlib.Core.Path.{◌≡◌, refl, sym, ap, subst⁻¹, ◌∙◌}
 use mathlib.Core.Logic.{◌↔◌}
 use mathlib.Core.Bool.{Bool, true, false, cond}
-use mathlib.Core.List.{List, [], ◌∷◌, ◌++◌, nil≢cons, append-nil}
-use lib.ListN.{length, get_or}
+use mathlib.Core.List.{List, [], ◌∷◌, ◌++◌, map, nil≢cons, append-nil}
+use lib.ListN.{length, get_or, length-map}
 use Rattle.std.specs.Prelude.{Option, None, unwrap_or, Result, Ok, Err}
 use Rattle.protocol.specs.declared.Nack.{Nack}
 use Rattle.protocol.specs.declared.Refusal.{Refusal}
@@ -16,28 +16,33 @@ use Rattle.protocol.specs.Carried.{no_dev_info, no_config}
 use Rattle.protocol.specs.Refusals.{outcome, lowest}
 use Rattle.device.specs.declared.model.DeviceModel.{DeviceModel}
 use Rattle.device.specs.Model.{has_power_mode}
-use Rattle.matching.specs.Promise.{Each, after_all}
-use Rattle.matching.proofs.Machine.{Antitone, ticks, ticked_from}
+use Rattle.matching.specs.Promise.{Each, after_all, Keeps}
+use Rattle.matching.proofs.Machine.{Antitone, ticks as ticksIn, ticked_from}
 use Rattle.matching.proofs.Embeds.{length-snoc}
 use Rattle.matching.proofs.Ticked.{ticked_from_grows}
 use Rattle.matching.proofs.Leftmost.{ticks_none}
 use Rattle.matching.proofs.Spelled.{spelled}
 use Rattle.matching.proofs.Promised as promised
+use Rattle.matching.proofs.Kept.{keeps, same_keeps, answers_so_far}
 use Rattle.sequence.specs.Accepted.{result_refusals}
 use Rattle.sequence.specs.Events.{Envelope, Event, checked, reading}
 use Rattle.sequence.specs.Rows.{judged}
 use Rattle.sequence.specs.Calls.{feed, check, ask}
 use Rattle.sequence.proofs.Events.{few}
 use Rattle.sequence.proofs.Standing as rows
+use Rattle.sheet.specs.declared.StartUp.{StartUp}
+use Rattle.sheet.specs.Sheet as text
+use Rattle.sheet.specs.Ticks.{kept}
+use Rattle.sheet.proofs.Stored.{kept_stored}
 use Rattle.dsp_table.specs.declared.DspStep.{DspStep}
 use Rattle.dsp_table.specs.Stores.{nack_in, no_status}
 use Rattle.dsp_table.specs.Table.{row, next, steps_for, table}
 use Rattle.dsp.specs.declared.DspSequencer.{DspSequencer}
 use Rattle.dsp.specs.declared.DspSync.{DspSync}
 use Rattle.dsp.specs.Answers.{begun, finished, taken, is_done}
-use Rattle.dsp.specs.Calls.{DspCall, into_result, take_refused, after, event, takes}
+use Rattle.dsp.specs.Calls.{DspCall, into_result, take_refused, sheet, after, event, takes}
 use Rattle.dsp_runs.specs.Theorem.{result_of, nack_of, Names, Right, Theorem}
-use Rattle.dsp_runs.proofs.States.{state_of, keep, kept_all, extra, sequencer, others}
+use Rattle.dsp_runs.proofs.States.{ticks, state_of, keep, kept_all, extra, sequencer, others}
 use Rattle.dsp_runs.proofs.OneModel.{Knows, knows_done, agree, named, agreed}
 
 -- the result with the model m
@@ -63,6 +68,7 @@ more x (feed e t) = x
 more x (check t) = x
 more x (ask into_result) = x
 more x (ask take_refused) = None
+more x (ask (sheet buf at)) = x
 
 cond_same : (b : Bool) (x : Option Nack) → cond b x x ≡ x
 cond_same true x = refl
@@ -74,6 +80,7 @@ more_takes x (feed e t ∷ cs) = more_takes x cs
 more_takes x (check t ∷ cs) = more_takes x cs
 more_takes x (ask into_result ∷ cs) = more_takes x cs
 more_takes x (ask take_refused ∷ cs) = more_takes None cs ∙ cond_same (takes cs) None
+more_takes x (ask (sheet buf at) ∷ cs) = more_takes x cs
 
 module _ (m : DeviceModel) where
   abbrev nil : Event Envelope
@@ -151,9 +158,9 @@ module _ (m : DeviceModel) where
 
   quiet : (es l : List E) → length (ticked_from reading (table m) es l) < length (table m) → kept_all m es None l ≡ None
   quiet es [] h = refl
-  quiet es (e ∷ l) h = go (ticks reading (table m) es e) refl
+  quiet es (e ∷ l) h = go (ticksIn reading (table m) es e) refl
     where
-      go : (b : Bool) → ticks reading (table m) es e ≡ b → cond b (keep m (get_or (steps_for m) (length es) DspStep.Done) e None) None ≡ None
+      go : (b : Bool) → ticksIn reading (table m) es e ≡ b → cond b (keep m (get_or (steps_for m) (length es) DspStep.Done) e None) None ≡ None
       go true p =
           keep_early (length es) e None
           (omega (arith, few_rows, length-snoc es e, ticked_from_grows reading (table m) (es ++ e ∷ []) l, rw p at h))
@@ -163,7 +170,7 @@ module _ (m : DeviceModel) where
   still es x [] h = refl
   still es x (e ∷ l) h = rw (ticks_none reading (table m) es e h)
 
-  hits : (es l : List E) (e : E) → l ≡ e ∷ [] → ticks reading (table m) es e ≡ true → suc (length es) ≡ length (table m)
+  hits : (es l : List E) (e : E) → l ≡ e ∷ [] → ticksIn reading (table m) es e ≡ true → suc (length es) ≡ length (table m)
       → kept_all m es None l ≡ keeps_for (has_power_mode m) e
   hits es l e i p h = ap (kept_all m es None) i ∙ ap (λ (b : Bool). cond b (keep m (get_or (steps_for m) (length es) DspStep.Done) e None) None) p ∙ keep_last (length es) e h
 
@@ -175,19 +182,22 @@ module _ (m : DeviceModel) where
       q es t (check u) h = quiet es (event t (check u)) h
       q es t (ask into_result) h = refl
       q es t (ask take_refused) h = refl
+      q es t (ask (sheet buf at)) h = refl
 
-      i : (es : List E) (t : ℕ) (c : DspCall) (e : E) → event t c ≡ e ∷ [] → ticks reading (table m) es e ≡ true
+      i : (es : List E) (t : ℕ) (c : DspCall) (e : E) → event t c ≡ e ∷ [] → ticksIn reading (table m) es e ≡ true
           → suc (length es) ≡ length (table m) → extra m es t None c ≡ keeps_for (has_power_mode m) e
       i es t (feed v u) e h p n = hits es (event t (feed v u)) e h p n
       i es t (check u) e h p n = hits es (event t (check u)) e h p n
       i es t (ask into_result) e h p n = absurd (nil≢cons h)
       i es t (ask take_refused) e h p n = absurd (nil≢cons h)
+      i es t (ask (sheet buf at)) e h p n = absurd (nil≢cons h)
 
       s : (es : List E) (t : ℕ) (y : Option Nack) (c : DspCall) → length (table m) ≤ length es → extra m es t y c ≡ more y c
       s es t y (feed e u) h = still es y (event t (feed e u)) h
       s es t y (check u) h = still es y (event t (check u)) h
       s es t y (ask into_result) h = refl
       s es t y (ask take_refused) h = refl
+      s es t y (ask (sheet buf at)) h = refl
 
   some : 0 < length (table m)
   some = omega arith
@@ -208,6 +218,13 @@ module _ (m : DeviceModel) where
       go true p = rw (p, knows_done m s.state h p)
       go false p = rw p
 
+  -- the ticks so far, after each beginning of a list
+  keeping : (cs : List DspCall) → Names m cs → (pre post : List DspCall) → cs ≡ pre ++ post
+      → Keeps reading nil event begun.seq after (table m) (λ s. kept s.ticks) (ticks m) pre
+  keeping cs n pre post e =
+      same_keeps (table m) pre (λ s. kept s.ticks) (ticks m) (agree m cs n pre post e).0
+      (keeps nil anti (sequencer m) None pre (λ s. kept s.ticks) (ticks m) (λ es t y h. kept_stored (map (ticks m) es) (rw length-map (omega (arith, few_rows)))))
+
   all : (cs : List DspCall) → Names m cs → Right m cs
   all cs n =
       record {
@@ -222,6 +239,8 @@ module _ (m : DeviceModel) where
             (λ pre post e. ap (λ (s : DspSequencer). (taken s).refused) (agree m cs n pre post e).0)
             given
             (promised.answers_held nil anti (sequencer m) None holds (few (λ e. e)) some (ask take_refused) (λ s. (taken s).refused) (λ x. x) (λ es t y. refl) cs);
+        ticks = keeping cs n cs [] (sym (append-nil cs));
+        sheets = λ buf at. answers_so_far (ask (sheet buf at)) _ _ (ticks m) (λ ts. text.given (text.sheet StartUp.Dsp ts) at buf) (λ s. refl) (keeping cs n);
       }
 
 pub right : Theorem

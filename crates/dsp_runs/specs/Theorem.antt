@@ -1,4 +1,4 @@
--- THE THEOREM of the DSP start-up: the promise (crate matching, Promise.antt) with its tables, its result and its nack. Definitions only;
+-- THE THEOREM of the DSP start-up: the promise (crate matching, Promise.antt) with its tables, its result, its nack and its sheet. Definitions only;
 -- the proof is proofs/Whole.antt.
 -- Assumes nothing.
 use Rattle.std.specs.Prelude.{ℕ, ◌≡◌, Bool, true, false, cond, ◌&&◌, List, [], ◌∷◌, Option, None, unwrap_or, Ok, Err}
@@ -9,17 +9,21 @@ use Rattle.protocol.specs.Kinds.{dev_info_resp}
 use Rattle.device.specs.declared.model.DeviceModel.{DeviceModel}
 use Rattle.device.specs.Model.{model_of, has_power_mode}
 use Rattle.matching.specs.Matching.{Table}
-use Rattle.matching.specs.Promise.{Each, Ends, Answers, First, run, tick}
+use Rattle.matching.specs.Promise.{Each, Ends, Answers, Keeps, AnswersSoFar, First, run, tick}
 use Rattle.sequence.specs.Events.{Envelope, Event, fed, checked, reading}
 use Rattle.sequence.specs.Calls.{ask}
 use Rattle.sequence.specs.Replies.{dev_info_in, config_in}
 use Rattle.sequence.specs.Rows.{test}
+use Rattle.sheet.specs.declared.StartUp.{StartUp}
+use Rattle.sheet.specs.Sheet as text
+use Rattle.sheet.specs.Sheet.{given}
+use Rattle.sheet.specs.Ticks.{tick_of, kept}
 use Rattle.dsp_table.specs.declared.DspStep.{DspStep}
 use Rattle.dsp_table.specs.Stores.{from_dsp, status_in, hw_info_in, prod_info_in, nack_in, unanswered_in, no_status}
 use Rattle.dsp_table.specs.Table.{entry1, entry2, entry3, table}
 use Rattle.dsp.specs.declared.DspSync.{DspSync}
-use Rattle.dsp.specs.Answers.{begun, finished, taken}
-use Rattle.dsp.specs.Calls.{DspCall, into_result, take_refused, after, event, takes}
+use Rattle.dsp.specs.Answers.{begun, finished, taken, sheet_of}
+use Rattle.dsp.specs.Calls.{DspCall, into_result, sheet, take_refused, after, event, takes}
 
 -- each record is that of the event at its entry's place (`at k`: of entry k), absent where that stores none
 abbrev pub result_of : DeviceModel → (ℕ → Event Envelope) → DspSync
@@ -66,6 +70,10 @@ module _ (m : DeviceModel) (cs : List DspCall) where
     pub asked : Answers reading (checked 0) event begun.seq after (table m) (ask into_result) finished (Err NotDone)
         (λ since at. Ok (result_of m at)) cs
     pub took : Answers reading (checked 0) event begun.seq after (table m) (ask take_refused) (λ s. (taken s).refused) None (nack_of (has_power_mode m)) cs
+    -- the ticks so far, and each sheet that is asked for
+    pub ticks : Keeps reading (checked 0) event begun.seq after (table m) (λ s. kept s.ticks) (tick_of (λ v. v)) cs
+    pub sheets : (buf : List ℕ) (at : ℕ) → AnswersSoFar reading (checked 0) event begun.seq after (table m) (ask (sheet buf at))
+        (λ s. given (sheet_of s) at buf) (tick_of (λ v. v)) (λ ts. given (text.sheet StartUp.Dsp ts) at buf) cs
 
 pub record Theorem : Type 0 where
   -- every list of calls names a model; where its device infos agree, it is theirs

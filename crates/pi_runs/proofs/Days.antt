@@ -2,7 +2,7 @@
 -- theorem would not give these.
 -- Assumes nothing.
 use Prim.Native.Nat.{ℕ}
-use mathlib.Core.Path.{◌≡◌, refl, sym, ap}
+use mathlib.Core.Path.{◌≡◌, refl, sym, ap, ◌∙◌}
 use mathlib.Core.Bool.{true≢false}
 use mathlib.Core.List.{List, [], ◌∷◌, ◌++◌}
 use Rattle.protocol.specs.declared.BusAddr.{BusAddr}
@@ -10,20 +10,27 @@ use Rattle.protocol.specs.declared.Message.{Message}
 use Rattle.protocol.specs.declared.CamConfig.{CamConfig}
 use Rattle.protocol.specs.declared.ParamData.{ParamData}
 use lib.IntN.{ℤ}
-use Rattle.std.specs.Prelude.{Ok, Err}
+use Rattle.std.proofs.Common.{◌+◌, ◌/◌, ◌%◌, ◌<◌, ◌≤◌, decimal, arith}
+use Rattle.std.specs.Prelude.{Ok, Err, codes, replicate}
+use Rattle.std.proofs.lemmas.Fmt.{decimal_digit, decimal_step}
 use Rattle.protocol.specs.declared.Refusal.{Refusal}
 use Rattle.protocol.specs.Stored.{stored}
 use Rattle.matching.specs.Promise.{after_all, events, Matched, First}
 use Rattle.matching.proofs.Called.{run_rises}
+use Rattle.matching.proofs.Kept.{so_far}
 use Rattle.matching.proofs.Machine.{leftmost}
 use Rattle.matching.proofs.Leftmost.{leftmost_matching, leftmost_earliest}
 use Rattle.sequence.specs.Events.{Envelope, Event, checked, reading}
 use Rattle.sequence.specs.Calls.{Untimed}
+use Rattle.sheet.specs.declared.How.{How}
+use Rattle.sheet.specs.declared.StartUp.{StartUp}
+use Rattle.sheet.specs.Sheet as text
+use Rattle.sheet.specs.Ticks.{kept}
 use Rattle.pi_table.specs.declared.PiStep.{PiStep}
 use Rattle.pi.specs.declared.PiSequencer.{PiSequencer}
 use Rattle.pi_table.specs.Table.{table}
-use Rattle.pi.specs.Answers.{begun, finished, is_done}
-use Rattle.pi.specs.Calls.{PiCall, into_result, after, event}
+use Rattle.pi.specs.Answers.{begun, finished, is_done, sheet_of}
+use Rattle.pi.specs.Calls.{PiCall, into_result, sheet, after, event}
 use Rattle.pi_runs.proofs.Whole.{anti, sequencer, right}
 
 -- ---- what comes in
@@ -45,6 +52,14 @@ Off cs = Matched reading (checked 0) event begun.seq after table cs
 
 abbrev places : List PiCall → List ℕ
 places cs = leftmost reading table (run cs)
+
+digit : (n : ℕ) → n < 10 → decimal n ≡ (48 + n) ∷ []
+digit = decimal_digit
+
+teen : (n : ℕ) → 10 ≤ n → n < 20 → decimal n ≡ 49 ∷ (48 + n % 10) ∷ []
+teen n low high =
+    let one : n / 10 ≡ 1 = omega arith in
+    decimal_step n low (omega arith) ∙ rw (one, digit 1 (omega arith)) refl
 
 -- ---- the day: the result is asked for before the last parameter, and at the end
 
@@ -94,3 +109,40 @@ module _ (a b : CamConfig) where
         password = stored (68 ∷ 0 ∷ []);
       })
   result = (right day).asked.from whole _ refl whole_ticked_off (places day) earliest
+
+  -- its sheet: sixteen lines, each with reading 0
+  pub day_ticks : kept (state day).ticks ≡ replicate 16 (record { reading = 0; how = How.Reply })
+  day_ticks = (right day).ticks.each 16 (places day) (so_far (checked 0) anti sequencer tt day)
+
+  abbrev lines : List ℕ
+  lines = codes "P,1,0,R\nP,2,0,R\nP,3,0,R\nP,4,0,R\nP,5,0,R\nP,6,0,R\nP,7,0,R\nP,8,0,R\nP,9,0,R\nP,10,0,R\nP,11,0,R\nP,12,0,R\nP,13,0,R\nP,14,0,R\nP,15,0,R\nP,16,0,R\n"
+
+  abbrev lent : List ℕ
+  lent = replicate 135 0x2E
+
+  -- what the call for a sheet answers that fits exactly
+  pub given : text.given (sheet_of (state day)) 0 lent ≡ (Ok 135, lines)
+  given =
+      ((right (day ++ Untimed.ask (sheet lent 0) ∷ [])).sheets lent 0).each day [] refl 16 (places day) (so_far (checked 0) anti sequencer tt day)
+      ∙ ap (λ t. text.given t 0 lent) written
+    where
+      written : text.sheet StartUp.Pi (replicate 16 (record { reading = 0; how = How.Reply })) ≡ lines
+      written = rw (
+        digit 0 (omega arith),
+        digit 1 (omega arith),
+        digit 2 (omega arith),
+        digit 3 (omega arith),
+        digit 4 (omega arith),
+        digit 5 (omega arith),
+        digit 6 (omega arith),
+        digit 7 (omega arith),
+        digit 8 (omega arith),
+        digit 9 (omega arith),
+        teen 10 (omega arith) (omega arith),
+        teen 11 (omega arith) (omega arith),
+        teen 12 (omega arith) (omega arith),
+        teen 13 (omega arith) (omega arith),
+        teen 14 (omega arith) (omega arith),
+        teen 15 (omega arith) (omega arith),
+        teen 16 (omega arith) (omega arith),
+      ) refl

@@ -1,6 +1,6 @@
 -- PROMISE 3, whole: the theorems of the five sequences that have a table, side by side. Each is the one statement of crate matching
--- (Promise.antt: Ends, and Answers where something is asked) with a table, and each is proved from the one matching theorem there.
--- Definitions only.
+-- (Promise.antt: Ends; Answers where something is asked; Keeps and AnswersSoFar where there is a sheet) with a table, and each is proved from
+-- the one matching theorem there. Definitions only.
 -- Assumes nothing.
 use Rattle.dsp_runs.specs.Theorem as dsp
 use Rattle.avr_runs.specs.Theorem as avr
