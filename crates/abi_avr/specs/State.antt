@@ -17,6 +17,7 @@ use Rattle.avr.specs.declared.AvrSequencer.{AvrSequencer}
 use Rattle.abi_values.specs.declared.UnknownNumber.{UnknownNumber}
 use Rattle.abi_values.specs.Numbers.{unknown, and_then}
 use Rattle.abi_values.specs.Options.{instant_in, instant_out, dev_info_in, dev_info_out, config_in, config_out}
+use Rattle.abi_sheet.specs.Ticks.{ticks_in, ticks_out}
 use Rattle.abi_avr.specs.declared.COptionAvrStatus.{COptionAvrStatus}
 use Rattle.abi_avr.specs.declared.COptionStored.{COptionStored}
 use Rattle.abi_avr.specs.declared.CAvrReplies.{CAvrReplies}
@@ -99,6 +100,7 @@ avr_step_out Avr.Done = 12
 abbrev pub avr_in : CAvr → Result AvrSequencer UnknownNumber
 avr_in c =
     and_then (avr_step_in c.step) (λ step.
+    and_then (ticks_in c.ticks) (λ ticks.
     Ok (record {
       state = record {
         step = step;
@@ -108,7 +110,8 @@ avr_in c =
         repoll_at = instant_in c.repoll_at;
       };
       last = c.last;
-    }))
+      ticks = ticks;
+    })))
 
 abbrev pub avr_out : AvrSequencer → CAvr
 avr_out s = record {
@@ -118,4 +121,5 @@ avr_out s = record {
   cal_deadline = instant_out s.state.cal_deadline;
   repoll_at = instant_out s.state.repoll_at;
   last = s.last;
+  ticks = ticks_out s.ticks;
 }

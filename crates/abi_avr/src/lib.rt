@@ -4,6 +4,7 @@
 ghost use Rattle.std.specs.Prelude.{◌≡◌};
 ghost use Rattle.abi_avr.specs.State.{stored_out, replies_in, replies_out, avr_step_in, avr_step_out, avr_in, avr_out};
 
+use abi_sheet::CTicks;
 use abi_values::UnknownNumber;
 use abi_values::options::{COptionConfigResp, COptionDevInfoResp, COptionInstant};
 use avr::AvrSequencer;
@@ -48,6 +49,7 @@ pub struct CAvr {
     pub cal_deadline: COptionInstant,
     pub repoll_at: COptionInstant,
     pub last: u64,
+    pub ticks: CTicks,
 }
 
 impl From<Option<Stored>> for COptionStored {
@@ -147,6 +149,7 @@ impl TryFrom<CAvr> for AvrSequencer {
         Ok(AvrSequencer {
             state,
             last: c.last,
+            ticks: c.ticks.try_into()?,
         })
     }
 }
@@ -162,6 +165,7 @@ impl From<AvrSequencer> for CAvr {
             cal_deadline: seq.state.cal_deadline.into(),
             repoll_at: seq.state.repoll_at.into(),
             last: seq.last,
+            ticks: seq.ticks.into(),
         }
     }
 }

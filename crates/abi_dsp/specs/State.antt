@@ -17,6 +17,7 @@ use Rattle.abi_values.specs.declared.UnknownNumber.{UnknownNumber}
 use Rattle.abi_values.specs.Numbers.{unknown, and_then, addr_in}
 use Rattle.abi_values.specs.Options.{instant_in, instant_out, dev_info_in, dev_info_out, config_in, config_out}
 use Rattle.abi_messages.specs.Messages.{dsp_status_in, dsp_status_out}
+use Rattle.abi_sheet.specs.Ticks.{ticks_in, ticks_out}
 use Rattle.abi_dsp.specs.declared.COptionNack.{COptionNack}
 use Rattle.abi_dsp.specs.declared.COptionDspStatus.{COptionDspStatus}
 use Rattle.abi_dsp.specs.declared.COptionDspQueryResp.{COptionDspQueryResp}
@@ -77,6 +78,7 @@ dsp_in c =
     and_then (dsp_step_in c.step) (λ step.
     and_then (status_in c.status) (λ status.
     and_then (nack_in c.refused) (λ refused.
+    and_then (ticks_in c.ticks) (λ ticks.
     Ok (record {
       state = record {
         step = step;
@@ -92,7 +94,8 @@ dsp_in c =
         deadline = instant_in c.deadline;
       };
       last = c.last;
-    }))))
+      ticks = ticks;
+    })))))
 
 abbrev pub dsp_out : DspSequencer → CDsp
 dsp_out s = record {
@@ -106,4 +109,5 @@ dsp_out s = record {
   power_mode_unanswered = s.state.replies.power_mode_unanswered;
   deadline = instant_out s.state.deadline;
   last = s.last;
+  ticks = ticks_out s.ticks;
 }

@@ -5,6 +5,7 @@ ghost use Rattle.std.specs.Prelude.{◌≡◌};
 ghost use Rattle.abi_dsp.specs.State.{nack_in, nack_out, status_in, status_out, hw_info_in, hw_info_out, dsp_step_in, dsp_step_out, dsp_in, dsp_out};
 
 use abi_messages::CDspStatus;
+use abi_sheet::CTicks;
 use abi_values::options::{COptionConfigResp, COptionDevInfoResp, COptionInstant};
 use abi_values::{UnknownNumber, addr_in};
 use dsp::DspSequencer;
@@ -52,6 +53,7 @@ pub struct CDsp {
     pub power_mode_unanswered: bool,
     pub deadline: COptionInstant,
     pub last: u64,
+    pub ticks: CTicks,
 }
 
 // The source is looked at whether there is a nack or not.
@@ -194,6 +196,7 @@ impl TryFrom<CDsp> for DspSequencer {
         Ok(DspSequencer {
             state,
             last: c.last,
+            ticks: c.ticks.try_into()?,
         })
     }
 }
@@ -216,6 +219,7 @@ impl From<DspSequencer> for CDsp {
             power_mode_unanswered: replies.power_mode_unanswered,
             deadline: seq.state.deadline.into(),
             last: seq.last,
+            ticks: seq.ticks.into(),
         }
     }
 }

@@ -23,6 +23,9 @@ use Rattle.protocol.specs.declared.Command.{Command}
 use Rattle.protocol.specs.declared.Command.TheVariants as Cmd
 use Rattle.protocol.specs.Addr.{byte_of}
 use Rattle.settings.specs.declared.AvrSettings.{AvrSettings}
+use Rattle.sheet.specs.declared.How.{How}
+use Rattle.sheet.specs.declared.Tick.{Tick}
+use Rattle.sheet.specs.declared.Ticks.{Ticks}
 use Rattle.dsp_table.specs.declared.DspStatusReply.{DspStatusReply}
 use Rattle.avr_table.specs.declared.AvrReplies.{AvrReplies}
 use Rattle.pi_table.specs.declared.PiReplies.{PiReplies}
@@ -32,6 +35,7 @@ use Rattle.abi_values.specs.Params.{param_as, param_in, param_out}
 use Rattle.abi_messages.specs.Messages.{dsp_status_in, dsp_status_out, message_in}
 use Rattle.abi.specs.Actions.{command_out, action_out}
 use Rattle.abi.specs.Settings.{params_in, params_out, radar_cal_in, radar_cal_out, settings_in, settings_out}
+use Rattle.abi_sheet.specs.Ticks.{how_in, how_out, tick_in, tick_out, places_in, places_out, ticks_in, ticks_out}
 use Rattle.abi_dsp.specs.State.{nack_in, nack_out, status_in, status_out, hw_info_in, hw_info_out, dsp_step_in, dsp_step_out}
 use Rattle.abi_avr.specs.State as avr
 use Rattle.abi_avr.specs.State.{factory_cal_out, if_cal_out, avr_config_out, avr_step_in, avr_step_out}
@@ -76,6 +80,23 @@ param_back p = param_as_lem p.param_id p.value
 params_back : (ps : List ParamValue) → params_in (params_out ps) ≡ Ok ps
 params_back [] = refl
 params_back (p ∷ ps) = rw (param_back p, params_back ps)
+
+-- ---- all ticks of a list
+
+how_back : (h : How) → how_in (how_out h) ≡ Ok h
+how_back How.Reply = refl
+how_back How.Nack = refl
+how_back How.Check = refl
+
+tick_back : (t : Tick) → tick_in (tick_out t) ≡ Ok t
+tick_back t = rw (how_back t.how)
+
+places_back : (ts : List Tick) → places_in (places_out ts) ≡ Ok ts
+places_back [] = refl
+places_back (t ∷ ts) = rw (tick_back t, places_back ts)
+
+ticks_back : (t : Ticks) → ticks_in (ticks_out t) ≡ Ok t
+ticks_back t = rw (places_back t.ticks)
 
 -- ---- records that may be absent
 
@@ -253,12 +274,14 @@ back = record {
   dsp_status = status_back;
   param = param_back;
   settings = settings_back;
+  tick = tick_back;
+  ticks = ticks_back;
   message = message_back;
   action = action_back;
   dsp =
-      λ s. rw (dsp_step s.state.step, dsp_reply_back s.state.replies.status, nack_back s.state.replies.refused, hw_info_back s.state.replies.hw_info, dev_info_back s.state.replies.dev_info, config_back s.state.replies.config, instant_back s.state.deadline);
-  avr = λ s. rw (avr_step s.state.step, avr_replies_back s.state.replies, instant_back s.state.cal_deadline, instant_back s.state.repoll_at);
-  pi = λ s. rw (pi_step s.step, pi_replies_back s.replies);
+      λ s. rw (dsp_step s.state.step, dsp_reply_back s.state.replies.status, nack_back s.state.replies.refused, hw_info_back s.state.replies.hw_info, dev_info_back s.state.replies.dev_info, config_back s.state.replies.config, instant_back s.state.deadline, ticks_back s.ticks);
+  avr = λ s. rw (avr_step s.state.step, avr_replies_back s.state.replies, instant_back s.state.cal_deadline, instant_back s.state.repoll_at, ticks_back s.ticks);
+  pi = λ s. rw (pi_step s.step, pi_replies_back s.replies, ticks_back s.ticks);
   avr_config = λ s. rw (avr_config_step s.step, settings_back s.settings);
   arm = λ s. rw (arm_step s.step);
   disarm = λ s. rw (disarm_step s.step);

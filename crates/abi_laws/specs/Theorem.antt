@@ -22,6 +22,8 @@ use Rattle.protocol.specs.Addr.{byte_of}
 use Rattle.protocol.specs.Carried.{no_ack, no_avr_status, no_cam_config, no_dsp_status, no_query_resp}
 use Rattle.settings.specs.declared.AvrSettings.{AvrSettings}
 use Rattle.settings.specs.Settings.{no_param}
+use Rattle.sheet.specs.declared.Tick.{Tick}
+use Rattle.sheet.specs.declared.Ticks.{Ticks}
 use Rattle.dsp.specs.declared.DspSequencer.{DspSequencer}
 use Rattle.avr.specs.declared.AvrSequencer.{AvrSequencer}
 use Rattle.pi.specs.declared.PiSequencer.{PiSequencer}
@@ -36,6 +38,7 @@ use Rattle.abi.specs.declared.action.CCommand.{CCommand}
 use Rattle.abi.specs.declared.action.CAction.{CAction}
 use Rattle.abi.specs.Actions.{action_out}
 use Rattle.abi.specs.Settings.{settings_in, settings_out}
+use Rattle.abi_sheet.specs.Ticks.{tick_in, tick_out, ticks_in, ticks_out}
 use Rattle.abi_dsp.specs.State.{dsp_in, dsp_out}
 use Rattle.abi_avr.specs.State.{avr_in, avr_out}
 use Rattle.abi_pi.specs.State.{pi_in, pi_out}
@@ -116,6 +119,8 @@ pub record Back : Type 0 where
   pub dsp_status : (s : DspStatus) → dsp_status_in (dsp_status_out s) ≡ Ok s
   pub param : (p : ParamValue) → param_in (param_out p) ≡ Ok p
   pub settings : (s : AvrSettings) → settings_in (settings_out s) ≡ Ok s
+  pub tick : (t : Tick) → tick_in (tick_out t) ≡ Ok t
+  pub ticks : (t : Ticks) → ticks_in (ticks_out t) ≡ Ok t
   pub message : (m : Message) → message_in (message_out m) ≡ Ok m
   pub action : (a : Option Action) → action_in (action_out a) ≡ a
   pub dsp : (s : DspSequencer) → dsp_in (dsp_out s) ≡ Ok s

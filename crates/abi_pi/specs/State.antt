@@ -12,6 +12,7 @@ use Rattle.pi.specs.declared.PiSequencer.{PiSequencer}
 use Rattle.abi_values.specs.declared.UnknownNumber.{UnknownNumber}
 use Rattle.abi_values.specs.Numbers.{unknown, and_then}
 use Rattle.abi_values.specs.Options.{dev_info_in, dev_info_out}
+use Rattle.abi_sheet.specs.Ticks.{ticks_in, ticks_out}
 use Rattle.abi_pi.specs.declared.COptionCamConfig.{COptionCamConfig}
 use Rattle.abi_pi.specs.declared.CPiReplies.{CPiReplies}
 use Rattle.abi_pi.specs.declared.CPiStep.{CPiStep}
@@ -56,7 +57,10 @@ pi_step_out (Pi.WaitParams i) = record { number = 7; idx = i }
 pi_step_out Pi.Done = record { number = 8; idx = 0 }
 
 abbrev pub pi_in : CPi → Result PiSequencer UnknownNumber
-pi_in c = and_then (pi_step_in c.step) (λ step. Ok (record { step = step; replies = replies_in c.replies }))
+pi_in c =
+    and_then (pi_step_in c.step) (λ step.
+    and_then (ticks_in c.ticks) (λ ticks.
+    Ok (record { step = step; replies = replies_in c.replies; ticks = ticks })))
 
 abbrev pub pi_out : PiSequencer → CPi
-pi_out s = record { step = pi_step_out s.step; replies = replies_out s.replies }
+pi_out s = record { step = pi_step_out s.step; replies = replies_out s.replies; ticks = ticks_out s.ticks }

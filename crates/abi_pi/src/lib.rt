@@ -4,6 +4,7 @@
 ghost use Rattle.std.specs.Prelude.{◌≡◌};
 ghost use Rattle.abi_pi.specs.State.{replies_in, replies_out, pi_step_in, pi_step_out, pi_in, pi_out};
 
+use abi_sheet::CTicks;
 use abi_values::UnknownNumber;
 use abi_values::options::COptionDevInfoResp;
 use pi::PiSequencer;
@@ -40,6 +41,7 @@ pub struct CPiStep {
 pub struct CPi {
     pub step: CPiStep,
     pub replies: CPiReplies,
+    pub ticks: CTicks,
 }
 
 impl From<CPiReplies> for PiReplies {
@@ -125,6 +127,7 @@ impl TryFrom<CPi> for PiSequencer {
         Ok(PiSequencer {
             step: c.step.try_into()?,
             replies: c.replies.into(),
+            ticks: c.ticks.try_into()?,
         })
     }
 }
@@ -136,6 +139,7 @@ impl From<PiSequencer> for CPi {
         CPi {
             step: seq.step.into(),
             replies: seq.replies.into(),
+            ticks: seq.ticks.into(),
         }
     }
 }

@@ -2,3 +2,4 @@ pub mod Sends
 pub mod Fed
 pub mod Untimed
 pub mod Timed
+pub mod Sheets

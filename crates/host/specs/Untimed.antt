@@ -1,7 +1,7 @@
 -- What a host's calls of the sequences without a clock answer: as the call itself, of the state and the envelope that the numbers stand for.
 -- A call that is refused gives back the state that was handed in; numbers that no case has are refused with 21. Definitions only.
 -- Assumes nothing.
-use Rattle.std.specs.Prelude.{ℕ, cond, false, List, [], ltb, Result, Ok, Err}
+use Rattle.std.specs.Prelude.{ℕ, cond, List, [], ltb, Result, Ok, Err}
 use Rattle.protocol.specs.declared.Refusal.{Refusal}
 use Rattle.protocol.specs.Refusals.{number}
 use Rattle.settings.specs.Settings.{mode_only}

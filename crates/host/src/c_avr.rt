@@ -2,9 +2,11 @@
 // files of other sequences stands here again.
 ghost use Rattle.std.specs.Prelude.{◌≡◌};
 ghost use Rattle.host.specs.Timed.{avr_new_for, avr_fed, avr_feed, avr_check, avr_sync, no_avr_result, avr_finished, avr_result, avr_new};
+ghost use Rattle.host.specs.Sheets.{avr_sheet, avr_sheet_buffer};
 
 use crate::UNKNOWN;
 use crate::fed::Fed;
+use crate::written::CWritten;
 use abi::action::CAction;
 use abi_avr::{CAvr, COptionStored};
 use abi_messages::{CEnvelope, Envelope};
@@ -152,5 +154,18 @@ pub extern "C" fn wigtalom_avr_result(seq: CAvr) -> CAvrFinished
     match AvrSequencer::try_from(seq) {
         Ok(open) => open.into_result().into(),
         Err(_) => no_result(UNKNOWN),
+    }
+}
+
+/// The sheet of the entries ticked so far, before Done too: written into the part of `buf` that begins at place `at`. 5 where that part is
+/// shorter than the sheet or the place is past the buffer's end, 21 where a number is of no case: the buffer then stays as it is.
+#[unsafe(no_mangle)]
+pub extern "C" fn wigtalom_avr_sheet(seq: CAvr, buf: &mut [u8], at: usize) -> CWritten
+    ensures answer { result ≡ avr_sheet seq buf.old at }
+    ensures buffer { buf.new ≡ avr_sheet_buffer seq buf.old at }
+{
+    match AvrSequencer::try_from(seq) {
+        Ok(open) => open.sheet(buf, at).into(),
+        Err(_) => CWritten::declined(),
     }
 }

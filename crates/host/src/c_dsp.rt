@@ -2,9 +2,11 @@
 // files of other sequences stands here again.
 ghost use Rattle.std.specs.Prelude.{◌≡◌};
 ghost use Rattle.host.specs.Timed.{dsp_fed, dsp_feed, dsp_check, dsp_sync, no_dsp_result, dsp_finished, dsp_result, dsp_take, dsp_new};
+ghost use Rattle.host.specs.Sheets.{dsp_sheet, dsp_sheet_buffer};
 
 use crate::UNKNOWN;
 use crate::fed::Fed;
+use crate::written::CWritten;
 use abi::action::CAction;
 use abi_dsp::{CDsp, COptionDspQueryResp, COptionNack};
 use abi_messages::{CDspStatus, CEnvelope, Envelope};
@@ -175,5 +177,18 @@ pub extern "C" fn wigtalom_dsp_take_refused(seq: CDsp) -> CDspTaken
         refusal: 0,
         refused: taken.refused.into(),
         seq: taken.seq.into(),
+    }
+}
+
+/// The sheet of the entries ticked so far, before Done too: written into the part of `buf` that begins at place `at`. 5 where that part is
+/// shorter than the sheet or the place is past the buffer's end, 21 where a number is of no case: the buffer then stays as it is.
+#[unsafe(no_mangle)]
+pub extern "C" fn wigtalom_dsp_sheet(seq: CDsp, buf: &mut [u8], at: usize) -> CWritten
+    ensures answer { result ≡ dsp_sheet seq buf.old at }
+    ensures buffer { buf.new ≡ dsp_sheet_buffer seq buf.old at }
+{
+    match DspSequencer::try_from(seq) {
+        Ok(open) => open.sheet(buf, at).into(),
+        Err(_) => CWritten::declined(),
     }
 }

@@ -2,9 +2,11 @@
 // files of other sequences stands here again.
 ghost use Rattle.std.specs.Prelude.{◌≡◌};
 ghost use Rattle.host.specs.Untimed.{pi_fed, pi_feed, no_pi_result, pi_finished, pi_result, pi_new};
+ghost use Rattle.host.specs.Sheets.{pi_sheet, pi_sheet_buffer};
 
 use crate::UNKNOWN;
 use crate::fed::Fed;
+use crate::written::CWritten;
 use abi::action::CAction;
 use abi_messages::{CEnvelope, Envelope};
 use abi_pi::CPi;
@@ -88,5 +90,18 @@ pub extern "C" fn wigtalom_pi_result(seq: CPi) -> CPiFinished
     match PiSequencer::try_from(seq) {
         Ok(open) => open.into_result().into(),
         Err(_) => no_result(UNKNOWN),
+    }
+}
+
+/// The sheet of the entries ticked so far, before Done too: written into the part of `buf` that begins at place `at`. 5 where that part is
+/// shorter than the sheet or the place is past the buffer's end, 21 where a number is of no case: the buffer then stays as it is.
+#[unsafe(no_mangle)]
+pub extern "C" fn wigtalom_pi_sheet(seq: CPi, buf: &mut [u8], at: usize) -> CWritten
+    ensures answer { result ≡ pi_sheet seq buf.old at }
+    ensures buffer { buf.new ≡ pi_sheet_buffer seq buf.old at }
+{
+    match PiSequencer::try_from(seq) {
+        Ok(open) => open.sheet(buf, at).into(),
+        Err(_) => CWritten::declined(),
     }
 }

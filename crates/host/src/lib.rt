@@ -11,6 +11,7 @@ mod c_dsp;
 mod c_pi;
 mod fed;
 mod sends;
+mod written;
 
-// A number that no case has: a kind, a device, a step, a layout or a format.
+// A number that no case has: a kind, a device, a step, a layout, a format or how an entry was ticked.
 const UNKNOWN: u8 = 21;
