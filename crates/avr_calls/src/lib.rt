@@ -7,6 +7,7 @@ use avr::AvrSequencer;
 use avr_table::AvrStep;
 use device::model::DeviceModel;
 use reading::{Calls, Feed};
+use sheet::SheetRefusal;
 use std::io::Write;
 use std::{fmt, io};
 use streams::answers::Text;
@@ -77,6 +78,7 @@ impl Sequence for AvrCalls {
     const CALLS: Option<Calls> = Some(Calls {
         check: true,
         result: true,
+        sheet: true,
         ..FEED_ALONE
     });
 
@@ -102,6 +104,10 @@ impl Sequence for AvrCalls {
 
     fn result(&self, out: &mut Text) -> io::Result<()> {
         send::result(out, &self.avr.into_result(), stored::sync)
+    }
+
+    fn sheet(&self, buf: &mut [u8], at: usize) -> Result<usize, SheetRefusal> {
+        self.avr.sheet(buf, at)
     }
 
     fn state(&self, out: &mut Text) -> io::Result<()> {

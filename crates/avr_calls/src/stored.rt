@@ -4,7 +4,7 @@ use avr_table::AvrReplies;
 use protocol::{AvrConfigResp, AvrStatus, CalDataResp, CalParamResp, Stored};
 use std::io;
 use std::io::Write;
-use writing::{fields, records, write};
+use writing::{fields, records, sheets, write};
 
 fn status<W: Write>(out: &mut W, s: &AvrStatus) -> io::Result<()> {
     write!(
@@ -61,5 +61,6 @@ pub fn state<W: Write>(out: &mut W, avr: &AvrSequencer) -> io::Result<()> {
     write!(out, "; state last={}", avr.last)?;
     replies(out, &avr.state.replies)?;
     records::instant(out, "cal_deadline", &avr.state.cal_deadline)?;
-    records::instant(out, "repoll_at", &avr.state.repoll_at)
+    records::instant(out, "repoll_at", &avr.state.repoll_at)?;
+    sheets::ticks(out, &avr.ticks)
 }

@@ -6,6 +6,7 @@ mod stored;
 use dsp::DspSequencer;
 use dsp_table::DspStep;
 use reading::{Calls, Feed};
+use sheet::SheetRefusal;
 use std::io::Write;
 use std::{fmt, io};
 use streams::answers::Text;
@@ -70,6 +71,7 @@ impl Sequence for DspCalls {
         check: true,
         result: true,
         take: true,
+        sheet: true,
         ..FEED_ALONE
     });
 
@@ -100,6 +102,10 @@ impl Sequence for DspCalls {
         let taken = self.dsp.take_refused();
         self.dsp = taken.seq;
         stored::taken(out, &taken.refused)
+    }
+
+    fn sheet(&self, buf: &mut [u8], at: usize) -> Result<usize, SheetRefusal> {
+        self.dsp.sheet(buf, at)
     }
 
     fn state(&self, out: &mut Text) -> io::Result<()> {

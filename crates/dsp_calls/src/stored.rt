@@ -5,7 +5,7 @@ use protocol::Nack;
 use std::io;
 use std::io::Write;
 use writing::write::Model;
-use writing::{fields, records};
+use writing::{fields, records, sheets};
 
 // The nack that `take_refused` gives.
 pub fn taken<W: Write>(out: &mut W, refused: &Option<Nack>) -> io::Result<()> {
@@ -55,5 +55,6 @@ pub fn state<W: Write>(out: &mut W, dsp: &DspSequencer) -> io::Result<()> {
     replies(out, r)?;
     records::instant(out, "deadline", &dsp.state.deadline)?;
     fields::optional(out, "refused", &r.refused, refused)?;
-    write!(out, " power_mode_unanswered={}", r.power_mode_unanswered)
+    write!(out, " power_mode_unanswered={}", r.power_mode_unanswered)?;
+    sheets::ticks(out, &dsp.ticks)
 }

@@ -7,6 +7,7 @@ mod stored;
 use pi::PiSequencer;
 use pi_table::PiStep;
 use reading::{Calls, Feed};
+use sheet::SheetRefusal;
 use std::io::Write;
 use std::{fmt, io};
 use streams::answers::Text;
@@ -79,6 +80,7 @@ impl Steps for PiCalls {
 impl Sequence for PiCalls {
     const CALLS: Option<Calls> = Some(Calls {
         result: true,
+        sheet: true,
         ..FEED_ALONE
     });
 
@@ -90,7 +92,11 @@ impl Sequence for PiCalls {
         send::result(out, &self.pi.into_result(), stored::sync)
     }
 
+    fn sheet(&self, buf: &mut [u8], at: usize) -> Result<usize, SheetRefusal> {
+        self.pi.sheet(buf, at)
+    }
+
     fn state(&self, out: &mut Text) -> io::Result<()> {
-        stored::state(out, &self.pi.replies)
+        stored::state(out, &self.pi)
     }
 }

@@ -52,6 +52,7 @@ pub struct Calls {
     pub result: bool,
     pub take: bool,
     pub retries: bool,
+    pub sheet: bool,
 }
 
 // An envelope and a line's clocks, which no envelope of the crates below the programs has.
@@ -67,6 +68,16 @@ pub struct Feed<'b> {
     pub payload: &'b [u8],
     // the wall clock's seconds
     pub wall: u64,
+}
+
+// The most bytes that are lent for a sheet.
+pub const SHEET_BUFFER: usize = 1_024;
+
+// A buffer that is lent for a sheet, and the place in it from which on the sheet is to stand.
+#[derive(Clone, Copy)]
+pub struct SheetBuffer {
+    pub at: u64,
+    pub len: usize,
 }
 
 // A call that no sequence is needed for.
@@ -87,6 +98,8 @@ pub enum Call<'b> {
     Result,
     Take,
     Retries,
+    // with the buffer, if the call names one
+    Sheet(Option<SheetBuffer>),
     Device(DeviceCall<'b>),
 }
 
@@ -112,12 +125,13 @@ enum Name {
     Result,
     Take,
     Retries,
+    Sheet,
     Ack,
     Keepalive,
     Model,
 }
 
-const NAMES: [(&str, Name); 16] = [
+const NAMES: [(&str, Name); 17] = [
     ("feed", Name::Feed),
     ("dsp", Name::Begin(Begin::Dsp)),
     ("avr", Name::Begin(Begin::Avr)),
@@ -131,6 +145,7 @@ const NAMES: [(&str, Name); 16] = [
     ("result", Name::Result),
     ("take", Name::Take),
     ("retries", Name::Retries),
+    ("sheet", Name::Sheet),
     ("ack", Name::Ack),
     ("keepalive", Name::Keepalive),
     ("model", Name::Model),
@@ -188,6 +203,29 @@ fn read_feed<'b>(reader: &mut Reader<'_>, lent: &'b mut Lent) -> Result<Call<'b>
     }))
 }
 
+// How many bytes are lent for a sheet.
+struct BufferLen(usize);
+
+impl Value for BufferLen {
+    fn read(word: &[u8]) -> Result<BufferLen, Reason> {
+        let len = usize::from(u16::read(word)?);
+        if SHEET_BUFFER < len {
+            return Err(Reason::OutOfRange);
+        }
+        Ok(BufferLen(len))
+    }
+}
+
+// The buffer for a sheet, if one is named.
+fn sheet_buffer(reader: &mut Reader<'_>) -> Result<Option<SheetBuffer>, Bad> {
+    if reader.is_done() {
+        return Ok(None);
+    }
+    let at = reader.next()?;
+    let BufferLen(len) = reader.next()?;
+    Ok(Some(SheetBuffer { at, len }))
+}
+
 fn ack(reader: &mut Reader<'_>) -> Result<DeviceCall<'static>, Bad> {
     Ok(DeviceCall::Ack(reader.next()?, reader.next()?, reader.next()?))
 }
@@ -232,6 +270,10 @@ fn read_call<'b>(
         Name::Retries => {
             its_call(running.map(|calls| calls.retries))?;
             Ok(Call::Retries)
+        }
+        Name::Sheet => {
+            its_call(running.map(|calls| calls.sheet))?;
+            Ok(Call::Sheet(sheet_buffer(reader)?))
         }
         Name::Ack => Ok(Call::Device(ack(reader)?)),
         Name::Keepalive => Ok(Call::Device(keepalive(reader)?)),

@@ -4,4 +4,6 @@
 mod call;
 mod run_settings;
 
-pub use call::{Call, Calls, DeviceCall, Feed, Lent, Sequence, read_line};
+pub use call::{
+    Call, Calls, DeviceCall, Feed, Lent, SHEET_BUFFER, Sequence, SheetBuffer, read_line,
+};

@@ -16,6 +16,20 @@ pub fn line<W: Write>(out: &mut W, s: &[u8]) -> io::Result<()> {
     fold::rest(out, s, INDENT, HANG)
 }
 
+// The lines of a sheet, which stand between quotes with the full stops of the buffer around them. No line has a full stop; behind each
+// stands its line feed, `\x0A`.
+fn sheet<W: Write>(out: &mut W, text: &[u8]) -> io::Result<()> {
+    for piece in text.split(|b| matches!(*b, b'"' | b'.' | b'\\')) {
+        let s = piece.strip_prefix(b"x0A").unwrap_or(piece);
+        if !s.is_empty() {
+            fold::blanks(out, fields::FIELD)?;
+            out.write_all(s)?;
+            writeln!(out)?;
+        }
+    }
+    Ok(())
+}
+
 // ---- whether it was accepted
 
 // `refused N`, and why.
@@ -76,6 +90,12 @@ impl Shown {
         }
         if s.starts_with(b"ticked ") || s == b"state".as_slice() {
             return Ok(());
+        }
+        if let Some(text) = s
+            .strip_prefix(b"sheet=")
+            .or_else(|| s.strip_prefix(b"buffer="))
+        {
+            return sheet(out, text);
         }
         let is_field = s.iter().find(|b| matches!(**b, b'=' | b' ')) == Some(&b'=');
         if is_field {

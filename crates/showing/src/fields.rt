@@ -24,7 +24,7 @@ impl Kind {
             b"status" | b"hw_info" | b"dev_info" | b"params" | b"model" | b"mode" => Kind::Outer,
             b"power_mode_unanswered" | b"refused" | b"retries" | b"wait_pi" => Kind::Outer,
             b"factory_cal" | b"if_cal" | b"avr_config" | b"radar_cal" => Kind::Outer,
-            b"cam_config" | b"ssid" | b"password" => Kind::Outer,
+            b"cam_config" | b"ssid" | b"password" | b"ticks" => Kind::Outer,
             _ => Kind::Inner,
         }
     }
@@ -34,7 +34,7 @@ impl Kind {
 const PROD_INFOS: [&[u8]; 3] = [b"prod_info 0", b"prod_info 1", b"prod_info 2"];
 
 // The columns before the name of a field, of one that belongs to a record, and before values.
-const FIELD: usize = 6;
+pub const FIELD: usize = 6;
 
 const INNER: usize = 8;
 

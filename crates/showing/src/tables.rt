@@ -1,5 +1,6 @@
 // What the answers mean, in words.
 use protocol::Refusal;
+use sheet::SheetRefusal;
 use std::fmt;
 
 // Which sequence runs. The reader's has the model with it, too, which nothing here needs.
@@ -164,22 +165,36 @@ impl Step {
     }
 }
 
-// Why a call is refused.
+// Why a sheet is refused.
+const PART_TOO_SHORT: &str =
+    "the part is shorter than the sheet, or the place is past the buffer's end";
+
+// Why a call is refused: one for a sheet has a number that no other call is refused with.
 #[derive(Clone, Copy)]
-pub struct Reason(Refusal);
+pub enum Reason {
+    Call(Refusal),
+    Sheet(SheetRefusal),
+}
 
 impl Reason {
     // By the number in an answer.
     pub fn of(number: &[u8]) -> Option<Reason> {
         let number: u8 = std::str::from_utf8(number).ok()?.parse().ok()?;
+        if number == SheetRefusal::PartTooShort.number() {
+            return Some(Reason::Sheet(SheetRefusal::PartTooShort));
+        }
         let refusal = REFUSALS.iter().find(|refusal| refusal.number() == number)?;
-        Some(Reason(*refusal))
+        Some(Reason::Call(*refusal))
     }
 }
 
 impl fmt::Display for Reason {
     fn fmt<W: fmt::Write>(&self, f: &mut fmt::Formatter<W>) -> fmt::Result {
-        f.write_str(match self.0 {
+        let refusal = match *self {
+            Reason::Call(refusal) => refusal,
+            Reason::Sheet(SheetRefusal::PartTooShort) => return f.write_str(PART_TOO_SHORT),
+        };
+        f.write_str(match refusal {
             Refusal::TextTooLong => "the text has more than 256 bytes",
             Refusal::PayloadTooLong => "the payload has more than 256 bytes",
             Refusal::ReadingTooLarge => "the reading is above 18446744071709551615 ns",

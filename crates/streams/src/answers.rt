@@ -17,7 +17,7 @@ const NEARLY_FULL: usize = 98_304;
 // The same before a line of a list that is shown: it takes up to 79,000 bytes, folded, and the mark and the answer come behind it.
 const ROOM_FOR_LINE: usize = 16_384;
 
-// The longest answers are results with the state of a DSP: some 10,200 bytes.
+// The longest answers are results with the state of a DSP: some 10,400 bytes.
 const ANSWER: usize = 16_384;
 
 // How answers are written: whether for people, and whether with the stored state behind each.

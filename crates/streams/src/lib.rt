@@ -1,11 +1,12 @@
 // A list of calls as it is answered: its lines, read one by one (lines), the answers as they are written out (answers), and the sequences, which answer
-// its calls (running). Calls that no sequence is needed for are answered here (device_calls).
+// its calls (running). Calls that no sequence is needed for are answered here (device_calls), and those for a sheet (sheets).
 #![tactic(auto)]
 
 pub mod answers;
 mod device_calls;
 pub mod lines;
 pub mod running;
+mod sheets;
 
 use answers::{Answers, Form};
 use lines::Lines;

@@ -1,9 +1,10 @@
 // The sequences, which answer a list's calls.
 use crate::answers::{Answers, Text};
-use crate::{Failure, List, device_calls};
+use crate::{Failure, List, device_calls, sheets};
 use protocol::{Action, BusAddr, Message, Refusal};
 use reading::{Call, Calls, Feed, read_line};
 use sequence::Answer;
+use sheet::SheetRefusal;
 use std::fmt::Display;
 use std::io;
 use std::io::{Read, Write};
@@ -15,6 +16,7 @@ pub const FEED_ALONE: Calls = Calls {
     result: false,
     take: false,
     retries: false,
+    sheet: false,
 };
 
 // A sequence that runs. Each of its calls writes what it answers. Those that it doesn't have are never made.
@@ -38,6 +40,11 @@ pub trait Sequence {
 
     fn retries(&self, _out: &mut Text) -> io::Result<()> {
         Ok(())
+    }
+
+    // Writes the sheet into a buffer, and not into the answer.
+    fn sheet(&self, _buf: &mut [u8], _at: usize) -> Result<usize, SheetRefusal> {
+        Ok(0)
     }
 
     // Writes every stored field.
@@ -134,6 +141,7 @@ fn answer<S: Sequence, W: Write + Drop>(
         Call::Result => running.result(out)?,
         Call::Take => running.take(out)?,
         Call::Retries => running.retries(out)?,
+        Call::Sheet(named) => sheets::answer(running, *named, out)?,
         Call::Begin(_) => {}
     }
     answers.end_in(running)

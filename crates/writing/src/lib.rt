@@ -4,4 +4,5 @@
 pub mod fields;
 pub mod records;
 pub mod send;
+pub mod sheets;
 pub mod write;

@@ -92,3 +92,15 @@ pub fn digits_and_text<W: Write>(out: &mut W, s: &[u8]) -> io::Result<()> {
     each(out, s, shown)?;
     out.write_all(b"|")
 }
+
+// Bytes between quotes, as a list has a text: those that can't be shown there, and quotes and backslashes, by their digits.
+pub fn text<W: Write>(out: &mut W, s: &[u8]) -> io::Result<()> {
+    out.write_all(b"\"")?;
+    for b in s {
+        match *b {
+            b'"' | b'\\' | 0..=0x1F | 0x7F..=0xFF => write!(out, "\\x{b:02X}")?,
+            _ => out.write_all(&[*b])?,
+        }
+    }
+    out.write_all(b"\"")
+}

@@ -1,0 +1,48 @@
+// Writes the ticks that a start-up keeps, and what a call for its sheet answers.
+ghost use Rattle.std.specs.Prelude.{◌≡◌};
+ghost use Rattle.sheet.specs.Sheet.{how_letter};
+
+use crate::write;
+use sheet::{How, SheetRefusal, Ticks};
+use std::io;
+use std::io::Write;
+
+// How an entry was ticked, as a sheet has it.
+fn letter(how: How) -> u8
+    ensures { result ≡ how_letter how }
+{
+    match how {
+        How::Reply => b'R',
+        How::Nack => b'N',
+        How::Check => b'K',
+    }
+}
+
+// The reading and the letter of each tick.
+pub fn ticks<W: Write>(out: &mut W, ticks: &Ticks) -> io::Result<()> {
+    let kept = ticks.as_slice();
+    if kept.is_empty() {
+        return out.write_all(b" ticks=none");
+    }
+    let mut before = " ticks=";
+    for tick in kept {
+        write!(out, "{before}{}", tick.reading)?;
+        out.write_all(&[letter(tick.how)])?;
+        before = ",";
+    }
+    Ok(())
+}
+
+// How many bytes a sheet has taken, or that it was refused.
+pub fn outcome<W: Write>(out: &mut W, written: &Result<usize, SheetRefusal>) -> io::Result<()> {
+    match written {
+        Ok(n) => write!(out, "accepted; wrote {n}"),
+        Err(refusal) => write!(out, "refused {}", refusal.number()),
+    }
+}
+
+// Bytes that a sheet was written into.
+pub fn text<W: Write>(out: &mut W, name: &str, s: &[u8]) -> io::Result<()> {
+    write!(out, "; {name}=")?;
+    write::text(out, s)
+}
