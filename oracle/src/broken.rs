@@ -43,10 +43,25 @@ impl Broken {
         comparable(&text)
     }
 
+    /// Any place, or one in a line that is picked first: so a short line, as
+    /// of a check or a sheet, is broken as often as a feed.
+    fn place(&mut self, text: &[u8]) -> usize {
+        let any = self.random.index(text.len() + 1);
+        if self.random.chance(50) {
+            return any;
+        }
+        let lines = text.split(|b| *b == b'\n').count();
+        let mut start = 0;
+        for _ in 0..self.random.index(lines) {
+            start = end_of_line(text, start) + 1;
+        }
+        start + self.random.index(end_of_line(text, start) - start + 1)
+    }
+
     /// Does one thing to a list that whoever writes one doesn't do.
     fn break_it(&mut self, text: &mut Vec<u8>) {
+        let at = self.place(text);
         let random = &mut self.random;
-        let at = random.index(text.len() + 1);
         let count = random.index(8) + 1;
         let to = (at + count).min(text.len());
         match random.below(12) {

@@ -71,6 +71,7 @@ impl Front {
             Call::Feed(feed) => self.sequence().feed(feed, out),
             Call::Check { now } => self.sequence().check(*now, out),
             Call::Result => self.sequence().result(out),
+            Call::Sheet { lent } => self.sequence().sheet(*lent, out),
             Call::Take => self.sequence().take(out),
             Call::Retries => self.sequence().retries(out),
         }

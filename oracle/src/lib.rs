@@ -39,5 +39,6 @@ pub mod papers;
 mod pi;
 pub mod refusal;
 pub mod running;
+pub mod sheet;
 pub mod show;
 pub mod write;

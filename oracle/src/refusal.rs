@@ -1,5 +1,5 @@
 //! The numbers with which a call is declined, from docs/SCOPE.md,
-//! "Refusals".
+//! "Refusals" and "Sheet".
 
 /// The most bytes of a text or a payload.
 pub const LONGEST: usize = 256;
@@ -39,6 +39,10 @@ pub const MOST_PARAMS: usize = 32;
 pub fn of_settings(params: usize) -> Option<u8> {
     (params > MOST_PARAMS).then_some(4)
 }
+
+/// A sheet asked for where the part of the buffer is shorter, or the place
+/// past the buffer's end.
+pub const PART_TOO_SHORT: u8 = 5;
 
 /// The most nacks that an arm counts.
 pub const MOST_RETRIES: u16 = 65_535;

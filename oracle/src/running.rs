@@ -9,6 +9,7 @@ use crate::protocol::handshake::DeviceModel;
 use crate::protocol::status::DspStatus;
 use crate::refusal;
 use crate::seq::{Action, Sequence};
+use crate::sheet::{self, How, Ticks};
 use crate::write;
 
 /// The calls of a list that belong to a sequence.
@@ -16,6 +17,7 @@ pub trait Running {
     fn feed(&mut self, feed: &Feed, out: &mut String);
     fn check(&mut self, now: u64, out: &mut String);
     fn result(&self, out: &mut String);
+    fn sheet(&self, lent: Option<(u64, usize)>, out: &mut String);
     fn take(&mut self, out: &mut String);
     fn retries(&self, out: &mut String);
     /// Every stored field, each after a blank.
@@ -41,6 +43,8 @@ pub struct View {
     pub echoes: Option<Echoes>,
     /// How many nacks an arm has counted.
     pub retries: Option<u16>,
+    /// How many bytes the sheet of a start-up has so far.
+    pub sheet: Option<usize>,
 }
 
 /// A step's name in seq.rs, and its fields.
@@ -80,6 +84,9 @@ pub struct Echoes {
     pub mode: u8,
     pub radar_cal: Option<(u16, u8)>,
 }
+
+/// How many bytes are lent for a sheet where a list doesn't say.
+const DEFAULT_LENT: usize = 512;
 
 /// What a check waits for.
 #[derive(Default)]
@@ -159,6 +166,8 @@ impl Clock {
 pub struct Run<S> {
     seq: S,
     clock: Clock,
+    /// What has been ticked, for the sheet of a start-up.
+    ticks: Option<Ticks>,
 }
 
 impl<S: Sequencer> Run<S> {
@@ -166,6 +175,7 @@ impl<S: Sequencer> Run<S> {
         Run {
             seq,
             clock: Clock { base, last: 0 },
+            ticks: Ticks::of(S::WHICH),
         }
     }
 
@@ -198,7 +208,7 @@ impl<S: Sequencer> Run<S> {
 
     fn accepted(
         &mut self,
-        now: u64,
+        (now, how): (u64, How),
         before: (Step, Option<usize>),
         actions: &[Action],
         out: &mut String,
@@ -207,6 +217,9 @@ impl<S: Sequencer> Run<S> {
         out.push_str("accepted; ");
         if let (Some(entry), true) = (before.1, self.seq.step() != before.0) {
             write::ticked(out, entry);
+            if let Some(ticks) = &mut self.ticks {
+                ticks.add(now, how);
+            }
         }
         write::sends(out, actions);
         write::step(out, self.seq.step());
@@ -231,7 +244,8 @@ impl<S: Sequencer> Running for Run<S> {
         let before = self.place();
         let (now, wall) = (self.clock.at(feed.now), wall(feed.wall));
         let actions = self.seq.feed(&envelope(feed), now, wall);
-        self.accepted(feed.now, before, &actions, out);
+        let tick = (feed.now, How::of(&feed.message));
+        self.accepted(tick, before, &actions, out);
     }
 
     fn check(&mut self, now: u64, out: &mut String) {
@@ -240,7 +254,7 @@ impl<S: Sequencer> Running for Run<S> {
         }
         let before = self.place();
         let actions = self.seq.check(self.clock.at(now));
-        self.accepted(now, before, &actions, out);
+        self.accepted((now, How::Check), before, &actions, out);
     }
 
     fn result(&self, out: &mut String) {
@@ -250,6 +264,30 @@ impl<S: Sequencer> Running for Run<S> {
         }
         out.push_str("accepted;");
         self.seq.result(out);
+    }
+
+    /// Each byte lent is a full stop before. Where it isn't said how many
+    /// are lent, what was written is told alone.
+    fn sheet(&self, lent: Option<(u64, usize)>, out: &mut String) {
+        let (at, length) = lent.unwrap_or((0, DEFAULT_LENT));
+        let mut buffer = vec![b'.'; length];
+        let ticks = self.ticks.as_ref().expect("a call of this sequence");
+        match sheet::put(ticks.sheet(), &mut buffer, at) {
+            Err(number) => {
+                out.push_str("refused ");
+                write::decimal(out, number);
+            }
+            Ok(count) => {
+                out.push_str("accepted; wrote ");
+                write::decimal(out, count as u64);
+                if lent.is_none() {
+                    out.push(';');
+                    return write::text(out, "sheet", &buffer[..count]);
+                }
+            }
+        }
+        out.push(';');
+        write::text(out, "buffer", &buffer);
     }
 
     fn take(&mut self, out: &mut String) {
@@ -272,6 +310,9 @@ impl<S: Sequencer> Running for Run<S> {
             write::number(out, "last", self.clock.last);
         }
         self.seq.state(&self.clock, out);
+        if let Some(ticks) = &self.ticks {
+            write::word(out, "ticks", ticks.stored());
+        }
     }
 
     fn which(&self) -> Which {
@@ -290,6 +331,7 @@ impl<S: Sequencer> Running for Run<S> {
             model: self.seq.model(),
             echoes: self.seq.echoes(),
             retries: self.seq.retries(),
+            sheet: self.ticks.as_ref().map(|ticks| ticks.sheet().len()),
         }
     }
 }

@@ -20,7 +20,7 @@ const VALUE: usize = 30;
 const BYTES_IN_ROW: usize = 16;
 
 /// The fields that stand in no record.
-const OUTER: [&str; 22] = [
+const OUTER: [&str; 23] = [
     "last",
     "status",
     "hw_info",
@@ -43,6 +43,7 @@ const OUTER: [&str; 22] = [
     "radar_cal",
     "retries",
     "wait_pi",
+    "ticks",
 ];
 const READINGS: [&str; 4] = ["last", "deadline", "cal_deadline", "repoll_at"];
 
@@ -127,6 +128,7 @@ impl Show {
                     indented(out, &format!("accepted, {ticked}"));
                 }
                 ("refused", _) => indented(out, &refused(part[1])),
+                (word, _) if is_lent(word) => sheet(out, word),
                 ("state", _) if part.len() == 1 => {}
                 ("state", _) => {
                     indented(out, "state");
@@ -276,6 +278,22 @@ fn mark(out: &mut Vec<u8>, line: &[u8], column: usize) {
     let before = columns(&line[..column - 1]);
     if before < WIDTH {
         out.extend(format!("{:before$}^\n", "").bytes());
+    }
+}
+
+/// Whether these are the bytes that were lent for a sheet, or those of them
+/// that were written.
+fn is_lent(word: &str) -> bool {
+    ["sheet=\"", "buffer=\""]
+        .iter()
+        .any(|name| word.starts_with(name))
+}
+
+/// Writes the lines of a sheet, without the full stops around them.
+fn sheet(out: &mut Vec<u8>, word: &str) {
+    let lent = word.split('"').nth(1).expect(word);
+    for line in lent.trim_matches('.').split_terminator("\\x0A") {
+        out.extend(format!("{:FIELD$}{line}\n", "").bytes());
     }
 }
 

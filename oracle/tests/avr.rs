@@ -248,9 +248,11 @@ fn states_of_the_repoll() {
         format!("feed 8 Avr 0xAA {second}"),
         format!("feed 9 {NACK}"),
     ];
-    let end = |repoll: &str| format!("{NO_REPLIES} cal_deadline=none repoll_at={repoll}");
-    let none = |last: u64| format!("last={last} status=none {}", end("none"));
-    let pending = |last: u64| format!("last={last} status=none {}", end("1000000004"));
+    let end = |repoll: &str, ticks: &str| {
+        format!("{NO_REPLIES} cal_deadline=none repoll_at={repoll} ticks={ticks}")
+    };
+    let none = |last: u64| format!("last={last} status=none {}", end("none", "none"));
+    let pending = |last: u64| format!("last={last} status=none {}", end("1000000004", "none"));
     let (first, second) = (stored_status(1), stored_status(2));
     let expected = [
         none(0),
@@ -259,10 +261,10 @@ fn states_of_the_repoll() {
         none(3),
         pending(4),
         pending(5),
-        format!("last=6 {first} {}", end("none")),
-        format!("last=7 {first} {}", end("1000000007")),
-        format!("last=8 {second} {}", end("none")),
-        format!("last=9 {second} {}", end("none")),
+        format!("last=6 {first} {}", end("none", "6R")),
+        format!("last=7 {first} {}", end("1000000007", "6R")),
+        format!("last=8 {second} {}", end("none", "6R,8R")),
+        format!("last=9 {second} {}", end("none", "6R,8R")),
     ];
     check_states(&list.join("\n"), &expected.each_ref().map(|s| &s[..]));
 }
@@ -283,14 +285,15 @@ fn states_of_the_calibrations() {
     .join("\n");
     let stored = stored_first();
     let factory = format!("{stored} factory_cal=payload=41|A|");
-    let waits = "cal_deadline=2000000010 repoll_at=none";
-    let none = "cal_deadline=none repoll_at=none";
+    let ticks = "9R,9R,9R,9R,9R,9R,9R";
+    let waits = format!("cal_deadline=2000000010 repoll_at=none ticks={ticks},10R");
+    let none = format!("cal_deadline=none repoll_at=none ticks={ticks},10R,11R");
     let both = format!("{factory} if_cal=payload=42|B|");
-    let last = format!("last=12 {both} avr_config=payload=43|C| {none}");
+    let last = format!("last=12 {both} avr_config=payload=43|C| {none},12R");
     let expected = [
         format!(
             "last=9 {stored} factory_cal=none if_cal=none avr_config=none \
-            cal_deadline=2000000009 repoll_at=none"
+            cal_deadline=2000000009 repoll_at=none ticks={ticks}"
         ),
         format!("last=10 {factory} if_cal=none avr_config=none {waits}"),
         format!("last=10 {factory} if_cal=none avr_config=none {waits}"),

@@ -161,6 +161,8 @@ fn no_sequence() {
         "take it",
         "retries",
         "\tretries 1",
+        "sheet",
+        " sheet x",
     ] {
         let bad = list::read(line.as_bytes(), None).err().expect(line);
         assert_eq!((bad.column, bad.reason), (1, Reason::NoSequence));
@@ -194,6 +196,9 @@ fn not_of_the_sequence() {
     for line in ["result", " result", "result x"] {
         others.into_iter().for_each(|which| refused(which, line));
     }
+    for line in ["sheet", "\tsheet", "sheet 0 34", "sheet x", "sheet 1"] {
+        others.into_iter().for_each(|which| refused(which, line));
+    }
     for line in ["retries", "\tretries", "retries x"] {
         without(|which| which == Which::Arm).for_each(|which| refused(which, line));
     }
@@ -207,6 +212,9 @@ fn of_the_sequence() {
     }
     for which in [Which::Dsp, Which::Avr, Which::Pi] {
         assert!(read(which, "result"));
+        assert!(read(which, "sheet"));
+        assert!(read(which, "sheet 0 34"));
+        assert!(!read(which, "sheet 0"));
     }
     assert!(read(Which::Dsp, "check 1"));
     assert!(read(Which::Avr, "check 1"));
@@ -393,6 +401,40 @@ fn other_settings() {
     let all = format!("{tee} range_mm=1 height_mm=2");
     check(&format!("{all} x"), 123, "end of line expected");
     good(&all);
+}
+
+#[test]
+fn sheets() {
+    check("sheets", 1, "unknown call");
+    check(" Sheet", 2, "unknown call");
+    check("sheet=1", 1, "unknown call");
+    check("sheet x", 7, "not a number");
+    check("sheet  x 34", 8, "not a number");
+    check("sheet -1 34", 7, "not a number");
+    check("sheet 1,34", 7, "not a number");
+    check("sheet 18446744073709551616", 7, "out of range");
+    check("sheet 0x10000000000000000 x", 7, "out of range");
+    // a length is missing
+    check("sheet 1", 8, "not a number");
+    check("sheet 1  ", 10, "not a number");
+    check("sheet 1 x", 9, "not a number");
+    check("sheet 1 -1", 9, "not a number");
+    check("sheet 1 0X10", 9, "not a number");
+    check("sheet 1 1025", 9, "out of range");
+    check("sheet 1  0x401 x", 10, "out of range");
+    check("sheet 1 18446744073709551616", 9, "out of range");
+    check("sheet 1 1024 0", 14, "end of line expected");
+    check("sheet 1 34 #", 12, "end of line expected");
+    let lent = |line: &str| match good(line) {
+        Some(Call::Sheet { lent }) => lent,
+        _ => panic!("{line}"),
+    };
+    assert_eq!(lent("sheet"), None);
+    assert_eq!(lent(" sheet \t\r"), None);
+    assert_eq!(lent("sheet 0 0"), Some((0, 0)));
+    let most = Some((u64::MAX, 1024));
+    assert_eq!(lent("sheet 18446744073709551615\t0x400 "), most);
+    assert_eq!(lent("sheet 0xFFFFffffFFFFffff 0001024"), most);
 }
 
 #[test]

@@ -2,6 +2,7 @@
 
 use std::cell::Cell;
 
+use oracle::broken::{self, Broken};
 use oracle::compare::{LIST_LINES, LONG_ARM_CALLS, List, Source, front_answers, shrink};
 use oracle::coverage::Coverage;
 use oracle::generate::{LEANINGS, LONG_ARM, Leaning, Random, device_info};
@@ -109,6 +110,27 @@ fn a_long_arm() {
     let mut source = Source::of_calls(LONG_ARM_CALLS - 1, 5, LONG_ARM, false);
     assert!(source.list(LIST_LINES, LONG_ARM_CALLS).lines.len() < 21_000);
     assert!(!source.coverage.long_arm);
+}
+
+/// Sheets are among what is broken: some can still be read, others can't.
+#[test]
+fn broken_lists_have_sheets() {
+    let (mut lists, mut met) = (Broken::new(3), [0; 3]);
+    for _ in 0..500 {
+        let list = lists.list();
+        let lines: Vec<&[u8]> = list.split(|b| *b == b'\n').collect();
+        let answers = broken::expected(&list, false).output;
+        for answer in String::from_utf8_lossy(&answers).lines() {
+            let (number, answer) = answer.split_once(": ").unwrap();
+            let line = lines[number.parse::<usize>().unwrap() - 1];
+            let outcomes = ["accepted; wrote ", "refused 5", "bad line "];
+            let outcome = outcomes.iter().position(|o| answer.starts_with(o));
+            if let (Some(place), true) = (outcome, line.starts_with(b"sheet")) {
+                met[place] += 1;
+            }
+        }
+    }
+    assert!(met.iter().all(|count| *count > 10), "{met:?}");
 }
 
 #[test]

@@ -218,14 +218,15 @@ const FIRST_ROWS: &str = "dsp\nfeed 1 Dsp 1 DspStatus V46 state=2 version=3 payl
 
 fn first_states() -> [String; 6] {
     let early = format!("dev_info=none {NO_PROD_INFO}");
-    let second = format!("last=1 {STATUS} hw_info=none {early} deadline=2000000001 {END}");
+    let second = format!("last=1 {STATUS} hw_info=none {early} deadline=2000000001 {END} ticks=1R");
+    let info = format!("{DEV_INFO} {NO_PROD_INFO}");
     [
-        format!("last=0 status=none hw_info=none {early} deadline=none {END}"),
+        format!("last=0 status=none hw_info=none {early} deadline=none {END} ticks=none"),
         second.clone(),
         "3: bad line at column 1: unknown call: docs/REPLAY.md names them all".to_string(),
         second,
-        format!("last=2 {STATUS} {HW_INFO} {early} deadline=none {END}"),
-        format!("last=3 {STATUS} {HW_INFO} {DEV_INFO} {NO_PROD_INFO} deadline=none {END}"),
+        format!("last=2 {STATUS} {HW_INFO} {early} deadline=none {END} ticks=1R,2R"),
+        format!("last=3 {STATUS} {HW_INFO} {info} deadline=none {END} ticks=1R,2R,3R"),
     ]
 }
 
@@ -247,18 +248,23 @@ fn states_of_the_last_rows() {
     );
     let stored = format!("{STATUS} {HW_INFO} {DEV_INFO} prod_info=70|p|");
     let all = format!("{stored} prod_info=71|q| prod_info=72|r| params={PARAMS}");
-    let waiting = format!("last=4 {all} deadline=2000000004 {END}");
+    let ticks = "ticks=1R,2R,3R,3R";
+    let waiting = format!("last=4 {all} deadline=2000000004 {END} {ticks},3R,3R,4R");
     let nack = "refused=src=Dsp type_id=0x01 bus_addr=0x08 acked_cmd=0x3F";
+    // a nack that is taken stays one in the ticks
+    let nacked = format!("{ticks},3R,3R,4R,5N");
     let mut states = first_states().to_vec();
     let no_deadline = "params=none deadline=none";
     states.extend([
-        format!("last=3 {stored} prod_info=|| prod_info=|| {no_deadline} {END}"),
-        format!("last=3 {stored} prod_info=71|q| prod_info=|| {no_deadline} {END}"),
-        format!("last=3 {stored} prod_info=71|q| prod_info=72|r| {no_deadline} {END}"),
+        format!("last=3 {stored} prod_info=|| prod_info=|| {no_deadline} {END} {ticks}"),
+        format!("last=3 {stored} prod_info=71|q| prod_info=|| {no_deadline} {END} {ticks},3R"),
+        format!(
+            "last=3 {stored} prod_info=71|q| prod_info=72|r| {no_deadline} {END} {ticks},3R,3R"
+        ),
         waiting.clone(),
         waiting,
-        format!("last=5 {all} deadline=none {nack} power_mode_unanswered=false"),
-        format!("last=5 {all} deadline=none {END}"),
+        format!("last=5 {all} deadline=none {nack} power_mode_unanswered=false {nacked}"),
+        format!("last=5 {all} deadline=none {END} {nacked}"),
     ]);
     let states: Vec<&str> = states.iter().map(|state| &state[..]).collect();
     check_states(&list, &states);

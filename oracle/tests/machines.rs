@@ -1,5 +1,6 @@
 //! docs/MACHINES.md against the Rust and against the tables of the port: every
-//! arrow of a picture is taken, and no arrow is missing.
+//! arrow of a picture is taken, and no arrow is missing. A start-up's sheet
+//! has a line for each arrow that was taken.
 
 mod common;
 
@@ -93,6 +94,29 @@ fn takes(list: &[String], arrow: &Arrow) {
     );
 }
 
+/// The line of a start-up's sheet for an arrow that a call has taken, the
+/// first in this run or a later one.
+fn line(section: &str, number: usize, arrow: &Arrow, call: &str) -> String {
+    let how = match arrow.tick.split(' ').next().unwrap() {
+        "check" => 'K',
+        "ConfigNack" => 'N',
+        _ => 'R',
+    };
+    let letter = &section[..1];
+    let reading = match letter {
+        "P" => "0",
+        _ => call.split(' ').nth(1).unwrap(),
+    };
+    format!("{letter},{number},{reading},{how}\n")
+}
+
+/// The sheet at the end of a list.
+fn sheet(list: &[String]) -> String {
+    let answers = answers(&format!("{}\nsheet", list.join("\n")), false);
+    let (_, told) = answers.rsplit_once("; sheet=\"").expect(&answers);
+    told.strip_suffix("\"\n").unwrap().replace("\\x0A", "\n")
+}
+
 /// Takes every arrow of a picture with numbered entries: the entries before
 /// it are ticked by the first arrow that each has.
 fn walk(section: &str, begin: &str, (model, facts): (&str, [bool; 3])) {
@@ -103,7 +127,8 @@ fn walk(section: &str, begin: &str, (model, facts): (&str, [bool; 3])) {
     takes(&list, new);
     let mut step = new.to.clone();
     let entries: BTreeSet<u32> = rest.iter().map(|arrow| arrow.entry.unwrap()).collect();
-    for entry in entries {
+    let (has_sheet, mut lines) = (section.ends_with(" start-up"), String::new());
+    for (number, entry) in (1..).zip(entries) {
         let now = 3 * SECOND * u64::from(entry);
         let ways: Vec<&Arrow> = rest.iter().filter(|a| a.entry == Some(entry)).collect();
         for way in &ways {
@@ -111,8 +136,13 @@ fn walk(section: &str, begin: &str, (model, facts): (&str, [bool; 3])) {
             let mut taken = list.clone();
             taken.push(call(&way.tick, model, now));
             takes(&taken, way);
+            if has_sheet {
+                let last = line(section, number, way, &taken[taken.len() - 1]);
+                assert_eq!(sheet(&taken), format!("{lines}{last}"), "{way:?}");
+            }
         }
         list.push(call(&ways[0].tick, model, now));
+        lines += &line(section, number, ways[0], &list[list.len() - 1]);
         step = ways[0].to.clone();
     }
     assert_eq!(step, "Done", "{section}");

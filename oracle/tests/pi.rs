@@ -177,6 +177,13 @@ fn states() {
     expected.extend(vec![all; 12]);
     let network = "feed 0 Pi 1 NetConfigResp text=\"z\"";
     let list = format!("{}\n{network}\nresult", list.join("\n"));
+    // No reading is kept, and sixteen entries are all.
+    let ticks = |count: usize| match count {
+        0 => "none".to_string(),
+        _ => vec!["0R"; count.min(16)].join(","),
+    };
+    let with_ticks = |(i, state)| format!("{state} ticks={}", ticks(i));
+    let expected: Vec<String> = expected.iter().enumerate().map(with_ticks).collect();
     let expected: Vec<&str> = expected.iter().map(|state| &state[..]).collect();
     check_last_states(&list, &expected);
 }

@@ -1,6 +1,6 @@
 //! The tables of docs/SCOPE.md against the Rust: what ticks each entry of a
-//! start-up or a disarm and what doesn't, the sends, the steps, and the
-//! fields that change.
+//! start-up or a disarm and what doesn't, the sends, the steps, the fields
+//! that change, and the ticks that a start-up keeps.
 
 mod common;
 
@@ -22,13 +22,15 @@ fn table(section: &str, facts: &[bool; 3]) -> Vec<Vec<String>> {
     rows.map(cells).filter(own).collect()
 }
 
-/// The answer to the last line of a list with one more, and the state then.
-fn last(list: &str, call: &str) -> (String, String) {
+/// The answer to the last line of a list with one more, the state then, and
+/// the ticks in it, which a disarm hasn't.
+fn last(list: &str, call: &str) -> (String, String, String) {
     let answers = answers(&format!("{list}{call}"), true);
     let (_, answer) = answers.lines().last().unwrap().split_once(": ").unwrap();
     let (answer, state) = answer.split_once("; state").unwrap();
     let answer = answer.replace("|..........|", "").replace("send ", "");
-    (answer, state.replace(" params=", " config="))
+    let (state, ticks) = state.rsplit_once(" ticks=").unwrap_or((state, ""));
+    (answer, state.replace(" params=", " config="), ticks.into())
 }
 
 /// A stored field, up to the next of these names.
@@ -64,6 +66,39 @@ fn stores<'a>(cell: &'a str, tick: &str) -> Vec<&'a str> {
         .collect()
 }
 
+/// The check that ticks an entry after a wait, one that is too early, and what
+/// is kept of the tick.
+fn checks(before: u64, wait: &str) -> (String, String, String) {
+    let wait = wait.split(' ').next().unwrap().replace(',', "");
+    let due = before + wait.parse::<u64>().unwrap();
+    let check = |now: u64| format!("check {now}");
+    (check(due), check(due - 1), format!("{due}K"))
+}
+
+/// The feed that ticks an entry, one that doesn't, and what is kept of the
+/// tick.
+fn feeds(section: &str, tick: &str, model: &str, now: u64) -> (String, String, String) {
+    // the same from App; where that counts, another kind
+    let other = tick.split_once(" from ").unwrap_or(("ConfigAck", ""));
+    let how = if tick.contains("ConfigNack") {
+        'N'
+    } else {
+        'R'
+    };
+    let reading = if section == "Pi start-up" { 0 } else { now };
+    let feed = |named| message(named, model, now);
+    (feed(tick), feed(other.0), format!("{reading}{how}"))
+}
+
+/// A disarm keeps none.
+fn one_more(ticks: &str, kept: &str) -> String {
+    match ticks {
+        "" => String::new(),
+        "none" => kept.to_string(),
+        _ => format!("{ticks},{kept}"),
+    }
+}
+
 /// Takes every row by each of its ticks, and the rows before it by their first.
 fn walk(section: &str, begin: &str, (model, facts): (&str, [bool; 3]), names: &str) {
     let names: Vec<&str> = names.split_whitespace().collect();
@@ -71,24 +106,22 @@ fn walk(section: &str, begin: &str, (model, facts): (&str, [bool; 3]), names: &s
     let (mut list, mut call) = (String::new(), begin.to_string());
     for (i, row) in rows.iter().enumerate() {
         list = format!("{list}{call}\n");
-        let (_, state) = last(&list, "");
+        let (_, state, ticks) = last(&list, "");
         let (before, now) = (3 * SECOND * i as u64, 3 * SECOND * (i as u64 + 1));
         let next = rows.get(i + 1).map_or("Done", |row| &row[2]);
         let (number, sent) = (row[1].split(',').next().unwrap(), sends(&row[4], &facts));
         let expected = format!("accepted; ticked {number}; {sent}; {next} ");
         for tick in row[3].rsplit("; or ") {
-            let idle;
-            if let Some((_, wait)) = tick.split_once("a check at least ") {
-                let wait = wait.split(' ').next().unwrap().replace(',', "");
-                let due = before + wait.parse::<u64>().unwrap();
-                (call, idle) = (format!("check {due}"), format!("check {}", due - 1));
-            } else {
-                // the same from App; where that counts, another kind
-                let other = tick.split_once(" from ").unwrap_or(("ConfigAck", ""));
-                (call, idle) = (message(tick, model, now), message(other.0, model, now));
-            }
-            assert!(last(&list, &idle).0.starts_with("accepted; no send; "));
-            let (answer, after) = last(&list, &call);
+            let (idle, kept);
+            (call, idle, kept) = match tick.split_once("a check at least ") {
+                Some((_, wait)) => checks(before, wait),
+                None => feeds(section, tick, model, now),
+            };
+            let (answer, _, same) = last(&list, &idle);
+            assert!(answer.starts_with("accepted; no send; "));
+            assert_eq!(same, ticks);
+            let (answer, after, more) = last(&list, &call);
+            assert_eq!(more, one_more(&ticks, &kept), "{row:?} {tick}");
             assert!(
                 format!("{answer} ").starts_with(&expected),
                 "{row:?} {answer}"

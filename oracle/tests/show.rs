@@ -5,7 +5,7 @@ mod common;
 
 use std::fs;
 
-use common::{PARAMS, answers};
+use common::{PARAMS, answers, message};
 use oracle::compare::Source;
 use oracle::generate::LEANINGS;
 use oracle::list::Which;
@@ -184,6 +184,10 @@ fn refusals_in_words() {
             "4: the settings have more than 32 parameters",
         ),
         (
+            "avr\nsheet 1 0\n".to_string(),
+            "5: the part is shorter than the sheet, or the place is past the buffer's end",
+        ),
+        (
             "dsp\ncheck 5\ncheck 4\n".to_string(),
             "11: the reading is below the last accepted one",
         ),
@@ -248,6 +252,64 @@ fn fields_of_a_result_and_a_state() {
       power_mode_unanswered   false
 ";
     assert!(lines.contains(refused), "{lines}");
+}
+
+/// The lines of a sheet, as they would be printed: behind 6 blanks, without
+/// the full stops around them. Of a refused one there is nothing.
+#[test]
+fn sheets_as_lines() {
+    let lines = ["      D,1,5000000000,R", "      D,2,7000000000,K"];
+    let list = format!("dsp\nsheet\nsheet 2 9\n{STATUS}\ncheck 7000000000\n");
+    let refused =
+        "    refused 5: the part is shorter than the sheet, or the place is past the buffer's end";
+    let asked = format!("{list}sheet\nsheet 3 100\nsheet 0 34\nsheet 0 33\nsheet 35 34\n");
+    let shown = shown(&asked, false);
+    let (_, last) = shown.split_once("    now WaitDevInfo\n").unwrap();
+    let expected = [
+        &["sheet", "    accepted", "    wrote 34", lines[0], lines[1]][..],
+        &[
+            "sheet 3 100",
+            "    accepted",
+            "    wrote 34",
+            lines[0],
+            lines[1],
+        ],
+        &[
+            "sheet 0 34",
+            "    accepted",
+            "    wrote 34",
+            lines[0],
+            lines[1],
+        ],
+        &["sheet 0 33", refused],
+        &["sheet 35 34", refused],
+        &["", "10 calls, 2 refused, 0 bad lines"],
+    ];
+    let last: Vec<&str> = last.lines().collect();
+    assert_eq!(last[..last.len() - 1], expected.concat());
+    let empty = "\nsheet\n    accepted\n    wrote 0\nsheet 2 9\n    accepted\n    wrote 0\nfeed ";
+    assert!(shown.contains(empty), "{shown}");
+}
+
+/// They are folded as other values are.
+#[test]
+fn ticks_of_a_state() {
+    let list = format!("dsp\nsheet\n{STATUS}\ncheck 7000000000\nsheet 0 0\n");
+    let lines = shown(&list, true);
+    let none = "      power_mode_unanswered   false\n      ticks                   none\n";
+    assert_eq!(lines.matches(none).count(), 2);
+    let two = "      ticks                   5000000000R,7000000000K\n";
+    assert_eq!(lines.matches(two).count(), 2);
+    let ticks = shown(&format!("pi\n{}", "feed 1 Pi 1 PiStatus\n".repeat(3)), true);
+    let status = "      password                empty\n      ticks                   0R\n";
+    assert_eq!(ticks.matches(status).count(), 3);
+    let status =
+        message("AvrStatus from Avr", "Xi", 1).replace("feed 1 ", "feed 18446744071709551615 ");
+    let info = "feed 18446744071709551615 Avr 1 DevInfoResp\n".repeat(2);
+    let folded = "      ticks                   18446744071709551615R,18446744071709551615R,18446744071709551615R,
+                              18446744071709551615R\n";
+    assert!(shown(&format!("avr\n{status}\n{status}\n{info}"), true).contains(folded));
+    assert!(!shown("disarm\narm\nmode_only mode=9\n", true).contains("ticks"));
 }
 
 #[test]
@@ -420,33 +482,6 @@ fn papers_and_tables_agree() {
         rows.map(|row| (row[0].to_string(), row[1].to_string()))
             .collect()
     };
-    // The refusals: each case with its number, where they are declared, and with its reason, in the `match` over them.
-    let declared = repository("crates/protocol/src/lib.rt");
-    let (_, cases) = declared.split_once("pub enum Refusal {\n").unwrap();
-    let (cases, _) = cases.split_once("\n}").unwrap();
-    let numbers: Vec<(&str, &str)> = cases
-        .lines()
-        .map(|line| line.trim().trim_end_matches(',').split_once(" = ").unwrap())
-        .collect();
-    let lines = source.lines();
-    let reasons: Vec<(&str, &str)> = lines
-        .filter_map(|line| line.trim().strip_prefix("Refusal::")?.split_once(" => "))
-        .map(|(case, given)| (case, given.trim_end_matches(',').trim_matches('"')))
-        .collect();
-    assert_eq!(reasons.len(), numbers.len());
-    let refusals: Vec<(String, String)> = numbers
-        .iter()
-        .zip(&reasons)
-        .map(|((case, number), (same, reason))| {
-            assert_eq!(case, same);
-            assert!(
-                source.contains(&format!("\n    Refusal::{case},\n")),
-                "{case}"
-            );
-            (number.to_string(), reason.to_string())
-        })
-        .collect();
-    assert_eq!(refusals, papers::refusals());
     let sequences = ["DSP", "AVR", "PI", "SETTINGS", "DISARM", "ARM"];
     assert_eq!(sequences.len(), Which::ALL.len());
     for (name, which) in sequences.iter().zip(Which::ALL) {
@@ -457,6 +492,45 @@ fn papers_and_tables_agree() {
         assert_eq!(steps, papers::steps(which), "{which:?}");
         assert_eq!(done, &("Done".to_string(), String::new()));
     }
+}
+
+/// The cases of an enum of refusals by their numbers, from where they are declared.
+fn declared(file: &str, name: &str) -> Vec<(u8, String)> {
+    let source = repository(file);
+    let (_, cases) = source.split_once(&format!("pub enum {name} {{\n")).unwrap();
+    let (cases, _) = cases.split_once("\n}").unwrap();
+    let cases = cases.lines().map(|line| line.trim().trim_end_matches(','));
+    let numbered = cases.filter(|line| !line.starts_with("//"));
+    let case = |line: &str| {
+        let (case, number) = line.split_once(" = ").unwrap();
+        (number.parse().unwrap(), format!("{name}::{case}"))
+    };
+    numbered.map(case).collect()
+}
+
+/// Each refusal with the reason that is shown of it, in the `match` over its
+/// enum. The sheet's has a const.
+#[test]
+fn papers_and_reasons_agree() {
+    let source = repository("crates/showing/src/tables.rt");
+    let own = declared("crates/protocol/src/lib.rt", "Refusal");
+    for (_, case) in &own {
+        assert!(source.contains(&format!("\n    {case},\n")), "{case}");
+    }
+    let of_sheets = declared("crates/sheet/src/lib.rt", "SheetRefusal");
+    let mut refusals = [own, of_sheets].concat();
+    refusals.sort();
+    let reason = |(number, case): (u8, String)| {
+        let start = match &case[..] {
+            "SheetRefusal::PartTooShort" => "\nconst PART_TOO_SHORT: &str =\n    \"".to_string(),
+            _ => format!("\n            {case} => \""),
+        };
+        let (_, rest) = source.split_once(&start).expect(&case);
+        let (reason, _) = rest.split_once('"').unwrap();
+        (number.to_string(), reason.to_string())
+    };
+    let refusals: Vec<(String, String)> = refusals.into_iter().map(reason).collect();
+    assert_eq!(refusals, papers::refusals());
 }
 
 /// The lists that the program `trials` shows, and what it is held to behind the trials.
@@ -479,7 +553,7 @@ fn stored() {
     assert!(trials + &both == repository("crates/trials/stdout"));
     assert!(both.lines().all(|line| columns(line) <= 100));
     // Every refusal but 13, which takes 65,536 nacks.
-    for number in ["1:", "2:", "3:", "4:", "11:", "12:"] {
+    for number in ["1:", "2:", "3:", "4:", "5:", "11:", "12:"] {
         assert!(both.contains(&format!("    refused {number}")), "{number}");
     }
     assert!(answers(&odd, false).lines().count() > 80);

@@ -3,6 +3,7 @@
 mod arm;
 mod avr_config;
 mod disarm;
+mod sheets;
 mod start_ups;
 mod tables;
 mod texts;

@@ -1,7 +1,7 @@
 //! What is counted of each sequence: the rows of its table with what ticks
 //! them, what else it does or leaves undone, and its answers.
 
-use super::{arm, avr_config, disarm, start_ups};
+use super::{arm, avr_config, disarm, sheets, start_ups};
 use crate::list::{Begin, Call, Feed, Which};
 use crate::model::Model;
 use crate::running::View;
@@ -58,8 +58,8 @@ pub fn table(which: Which) -> Table {
     };
     Table {
         columns,
-        rows: rows.to_vec(),
-        answers: answers.to_vec(),
+        rows: [rows, sheets::rows(which)].concat(),
+        answers: [answers, sheets::answer_names(which)].concat(),
     }
 }
 
@@ -134,7 +134,10 @@ fn noted(event: &Event) -> Vec<&'static str> {
         Which::AvrConfig => avr_config::noted(event),
         Which::Disarm => disarm::noted(event).into_iter().collect(),
         Which::Arm => arm::noted(event).into_iter().collect(),
-        _ => start_ups::repoll(event).into_iter().collect(),
+        _ => start_ups::repoll(event)
+            .into_iter()
+            .chain(sheets::lines(event))
+            .collect(),
     }
 }
 
@@ -160,7 +163,7 @@ pub fn answers(event: &Event, table: &Table) -> Vec<&'static str> {
     match event.before.which {
         Which::Disarm => met.extend(disarm::answers(event)),
         Which::Arm => met.extend(arm::answers(event)),
-        _ => {}
+        _ => met.extend(sheets::answers(event)),
     }
     met
 }

@@ -1,17 +1,19 @@
 //! Lines that can't be read, as they are written.
 
 /// Lines of these begin a list, before any sequence.
-pub const EARLY: [&str; 6] = [
+pub const EARLY: [&str; 8] = [
     "feed 1 Dsp 0xAA PiStatus",
     "check",
     " result",
     "take it",
     "feed",
     "results",
+    "sheet",
+    " sheet x",
 ];
 
 /// Lines with each reason. Those about a kind's fields are made below.
-pub const LINES: [&str; 65] = [
+pub const LINES: [&str; 87] = [
     "dsps",
     " \tDsp",
     "dsp#",
@@ -77,6 +79,28 @@ pub const LINES: [&str; 65] = [
     "check 1 2",
     "keepalive Xi Xi",
     "ack Xi Avr 0xD4 x",
+    "sheets",
+    "Sheet",
+    "sheet=0",
+    "sheet x",
+    "sheet 0",
+    "sheet 0 ",
+    "sheet 0,34",
+    "sheet -1 34",
+    "sheet 0x 34",
+    "sheet at=0 len=34",
+    "sheet 18446744073709551616",
+    "sheet 0x10000000000000000 x",
+    "sheet 99999999999999999999999999999999999999999999 34",
+    "sheet 0 x",
+    "sheet 0 -1",
+    "sheet 0 1e3",
+    "sheet 0 1025",
+    "sheet 18446744073709551615 0x401",
+    "sheet 0 18446744073709551616",
+    "sheet 0 1025 x",
+    "sheet 0 1024 x",
+    "sheet 0 34 #",
 ];
 
 /// The same, with words that the DSP's lists haven't. Some can be read
@@ -120,7 +144,7 @@ pub const MORE_LINES: [&str; 35] = [
 ];
 
 /// The same, with the words of settings runs, disarms and arms.
-pub const SETTINGS_ARM_LINES: [&str; 58] = [
+pub const SETTINGS_ARM_LINES: [&str; 62] = [
     "avr_configs mode=9",
     "Avr_config mode=9",
     "avr-config mode=9",
@@ -179,6 +203,10 @@ pub const SETTINGS_ARM_LINES: [&str; 58] = [
     "retries=1",
     "result",
     "result x",
+    "sheet",
+    "\tsheet",
+    "sheet 0 34",
+    "sheet x",
 ];
 
 /// More lines before any sequence.

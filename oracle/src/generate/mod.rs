@@ -15,6 +15,7 @@ mod pi;
 mod random;
 mod readings;
 mod settings;
+mod sheets;
 
 pub use bad::BadLines;
 pub use bytes::device_info;
@@ -107,12 +108,13 @@ impl Generator {
             return self.begin();
         };
         self.left -= 1;
-        let words = match self.random.below(100) {
-            0..3 => return comment(&mut self.random),
-            3..6 => aside(&mut self.random),
-            6..10 if view.which.has_result() => vec!["result".to_string()],
-            6..10 if view.which.has_retries() => vec!["retries".to_string()],
-            10..13 if view.which.has_take() => vec!["take".to_string()],
+        let words = match (self.random.below(100), view.sheet) {
+            (0..3, _) => return comment(&mut self.random),
+            (3..6, _) => aside(&mut self.random),
+            (6..10, _) if view.which.has_result() => vec!["result".to_string()],
+            (6..10, _) if view.which.has_retries() => vec!["retries".to_string()],
+            (10..13, _) if view.which.has_take() => vec!["take".to_string()],
+            (13..20, Some(sheet)) => sheets::words(&mut self.random, sheet),
             _ => self.call(view),
         };
         spaced(&mut self.random, &words)

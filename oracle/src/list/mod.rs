@@ -7,7 +7,7 @@ mod settings;
 mod which;
 
 pub use bad::{Bad, Reason};
-use cursor::Cursor;
+use cursor::{Cursor, Number};
 pub use which::Which;
 
 use crate::addr::BusAddr;
@@ -18,6 +18,9 @@ use crate::seq::{AvrSettings, MevoSettings};
 /// The longest line that is read, in bytes without its line feed.
 pub const LONGEST: usize = 65_536;
 
+/// The most bytes that are lent for a sheet.
+pub const MOST_LENT: usize = 1024;
+
 /// A call of a list.
 pub enum Call {
     Begin(Begin),
@@ -26,6 +29,10 @@ pub enum Call {
         now: u64,
     },
     Result,
+    /// With the place and how many bytes are lent, if they are given.
+    Sheet {
+        lent: Option<(u64, usize)>,
+    },
     Take,
     Retries,
     Ack {
@@ -112,6 +119,7 @@ fn belongs(word: &[u8], running: Option<Which>) -> Result<(), Bad> {
         b"feed" => |_| true,
         b"check" => Which::has_check,
         b"result" => Which::has_result,
+        b"sheet" => Which::has_sheet,
         b"take" => Which::has_take,
         b"retries" => Which::has_retries,
         _ => return Ok(()),
@@ -144,6 +152,7 @@ fn call(word: &[u8], c: &mut Cursor) -> Result<Option<Call>, Bad> {
         b"feed" => Call::Feed(Box::new(feed(c)?)),
         b"check" => Call::Check { now: c.number()? },
         b"result" => Call::Result,
+        b"sheet" => sheet(c)?,
         b"take" => Call::Take,
         b"retries" => Call::Retries,
         b"ack" => ack(c)?,
@@ -185,6 +194,35 @@ fn wall(c: &mut Cursor) -> Result<u64, Bad> {
     } else {
         Ok(0)
     }
+}
+
+/// How many bytes are lent.
+struct Lent(usize);
+
+impl TryFrom<i128> for Lent {
+    type Error = ();
+
+    fn try_from(number: i128) -> Result<Self, ()> {
+        match usize::try_from(number) {
+            Ok(length @ 0..=MOST_LENT) => Ok(Lent(length)),
+            _ => Err(()),
+        }
+    }
+}
+
+impl Number for Lent {
+    const SIGNED: bool = false;
+}
+
+fn sheet(c: &mut Cursor) -> Result<Call, Bad> {
+    if c.at_end() {
+        return Ok(Call::Sheet { lent: None });
+    }
+    let at = c.number()?;
+    let Lent(length) = c.number()?;
+    Ok(Call::Sheet {
+        lent: Some((at, length)),
+    })
 }
 
 fn ack(c: &mut Cursor) -> Result<Call, Bad> {

@@ -57,6 +57,10 @@ impl Which {
         self.is_start_up()
     }
 
+    pub fn has_sheet(self) -> bool {
+        self.is_start_up()
+    }
+
     pub fn has_take(self) -> bool {
         self == Which::Dsp
     }

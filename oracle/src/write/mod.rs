@@ -92,6 +92,23 @@ pub fn bytes(out: &mut String, field: &str, bytes: &[u8]) {
     out.push('|');
 }
 
+/// Bytes as a list of calls has them in a text.
+pub fn text(out: &mut String, field: &str, bytes: &[u8]) {
+    name(out, field);
+    out.push('"');
+    for &b in bytes {
+        match b {
+            b'"' | b'\\' => out.extend(['\\', char::from(b)]),
+            0x20..=0x7E => out.push(char::from(b)),
+            _ => {
+                out.push_str("\\x");
+                byte(out, b);
+            }
+        }
+    }
+    out.push('"');
+}
+
 pub fn word(out: &mut String, field: &str, word: &str) {
     name(out, field);
     out.push_str(word);
