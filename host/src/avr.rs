@@ -9,6 +9,7 @@ use crate::message::{
 };
 use crate::records::{CAvr, CAvrFed, CAvrSync, COptionStored};
 use crate::refusal::Refusal;
+use crate::sheet::{self, Tick};
 use crate::steps;
 
 /// The start-up of the AVR.
@@ -58,6 +59,8 @@ pub struct AvrState {
     pub repoll_at: Option<u64>,
     /// The last accepted reading.
     pub last: u64,
+    /// The entries ticked so far.
+    pub ticks: Vec<Tick>,
 }
 
 impl AvrSequencer {
@@ -139,6 +142,26 @@ impl AvrSequencer {
         Ok(sync(&finished.sync))
     }
 
+    /// The sheet of the entries ticked so far, with the letter A, else as
+    /// [`DspSequencer::sheet`](crate::DspSequencer::sheet) has it. Its last
+    /// line is number 8 where the model has no factory calibration.
+    #[must_use]
+    pub fn sheet(&self) -> String {
+        sheet::whole(self.0, ffi::avr_sheet)
+    }
+
+    /// Writes the sheet into the part of `buf` that begins at place `at` and
+    /// reaches to the buffer's end. Gives how many bytes were written. Those
+    /// before the place and behind the sheet stay.
+    ///
+    /// # Errors
+    ///
+    /// The part is shorter than the sheet, or the place is past the buffer's
+    /// end (5). Then nothing is written.
+    pub fn sheet_into(&self, buf: &mut [u8], at: usize) -> Result<usize, Refusal> {
+        ffi::avr_sheet(self.0, buf, at).value()
+    }
+
     /// What is stored so far, for logs and tests.
     #[must_use]
     pub fn state(&self) -> AvrState {
@@ -155,6 +178,7 @@ impl AvrSequencer {
             cal_deadline: c.cal_deadline.value(),
             repoll_at: c.repoll_at.value(),
             last: c.last,
+            ticks: c.ticks.value(),
         }
     }
 }

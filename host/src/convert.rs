@@ -11,9 +11,10 @@ use crate::message::{
 };
 use crate::records::{
     CAction, CDevInfoResp, CDspStatus, CDspStatus46, CEnvelope, CMessage, COptionInstant,
-    COptionNack, CParamValue, CTimeSync, Stored,
+    COptionNack, CParamValue, CTick, CTicks, CTimeSync, CWritten, Stored,
 };
 use crate::refusal::Refusal;
+use crate::sheet::{How, Tick};
 
 // ---- what goes in
 
@@ -281,6 +282,35 @@ impl COptionNack {
             type_id: self.type_id,
             message: Message::ConfigNack(self.nack),
         })
+    }
+}
+
+impl CTick {
+    fn value(&self) -> Tick {
+        Tick {
+            reading: self.reading,
+            how: match self.how {
+                0 => How::Reply,
+                1 => How::Nack,
+                _ => How::Check,
+            },
+        }
+    }
+}
+
+impl CTicks {
+    /// The ticks that there are, in order.
+    pub(crate) fn value(&self) -> Vec<Tick> {
+        let ticks = self.ticks.iter().take(self.len);
+        ticks.map(CTick::value).collect()
+    }
+}
+
+impl CWritten {
+    /// How many bytes an accepted call wrote.
+    pub(crate) fn value(self) -> Result<usize, Refusal> {
+        Refusal::check(self.refusal)?;
+        Ok(self.len)
     }
 }
 

@@ -7,6 +7,7 @@ use crate::ffi;
 use crate::message::{ConfigResp, DevInfoResp, DspQueryResp, DspStatus, Envelope, ProdInfoResp};
 use crate::records::{CDsp, CDspFed, CDspSync};
 use crate::refusal::Refusal;
+use crate::sheet::{self, Tick};
 use crate::steps;
 
 /// The start-up of the DSP, and the detection of the model.
@@ -56,6 +57,8 @@ pub struct DspState {
     pub deadline: Option<u64>,
     /// The last accepted reading.
     pub last: u64,
+    /// The entries ticked so far.
+    pub ticks: Vec<Tick>,
 }
 
 impl DspSequencer {
@@ -118,6 +121,40 @@ impl DspSequencer {
         Ok(sync(&finished.sync))
     }
 
+    /// The sheet of the entries ticked so far, also before the start-up is
+    /// complete. Each has a line, such as `D,2,7000000000,K`, with a line feed
+    /// at its end: the letter of the start-up; the number of the tick in it,
+    /// from 1; its reading in nanoseconds; and [how](crate::How) the entry was
+    /// ticked.
+    ///
+    /// ```
+    /// use wigtalom::{BusAddr, DspSequencer, DspStatus, DspStatus80, Envelope, Message};
+    ///
+    /// let (mut seq, _) = DspSequencer::new();
+    /// let message = Message::DspStatus(DspStatus::V80(DspStatus80::default()));
+    /// let env = Envelope { src: BusAddr::Dsp, type_id: 0xAA, message };
+    /// seq.feed(&env, 5_000_000_000)?;
+    /// seq.check_timeout(7_000_000_000)?;
+    /// assert_eq!(seq.sheet(), "D,1,5000000000,R\nD,2,7000000000,K\n");
+    /// # Ok::<(), wigtalom::Refusal>(())
+    /// ```
+    #[must_use]
+    pub fn sheet(&self) -> String {
+        sheet::whole(self.0, ffi::dsp_sheet)
+    }
+
+    /// Writes the sheet into the part of `buf` that begins at place `at` and
+    /// reaches to the buffer's end. Gives how many bytes were written. Those
+    /// before the place and behind the sheet stay.
+    ///
+    /// # Errors
+    ///
+    /// The part is shorter than the sheet, or the place is past the buffer's
+    /// end (5). Then nothing is written.
+    pub fn sheet_into(&self, buf: &mut [u8], at: usize) -> Result<usize, Refusal> {
+        ffi::dsp_sheet(self.0, buf, at).value()
+    }
+
     /// What is stored so far, for logs and tests.
     #[must_use]
     pub fn state(&self) -> DspState {
@@ -134,6 +171,7 @@ impl DspSequencer {
             power_mode_unanswered: c.power_mode_unanswered,
             deadline: c.deadline.value(),
             last: c.last,
+            ticks: c.ticks.value(),
         }
     }
 }

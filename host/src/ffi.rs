@@ -6,7 +6,7 @@ use crate::message::RadarCal;
 use crate::records::{
     CArm, CArmFed, CAvr, CAvrConfig, CAvrConfigFed, CAvrFed, CAvrFinished, CDisarm, CDisarmFed,
     CDsp, CDspFed, CDspFinished, CDspTaken, CEnvelope, CKeepalive, CPi, CPiFed, CPiFinished,
-    CRetries, CSent, CSettings,
+    CRetries, CSent, CSettings, CWritten,
 };
 
 // SAFETY: the signatures and layouts are those of crates/host/src. A `safe fn` takes values alone.
@@ -19,6 +19,7 @@ unsafe extern "C" {
     pub safe fn wigtalom_dsp_check(seq: CDsp, now: u64) -> CDspFed;
     pub safe fn wigtalom_dsp_result(seq: CDsp) -> CDspFinished;
     pub safe fn wigtalom_dsp_take_refused(seq: CDsp) -> CDspTaken;
+    fn wigtalom_dsp_sheet(seq: CDsp, buf: *mut u8, buf_len: usize, at: usize) -> CWritten;
     fn wigtalom_dsp_feed(
         seq: CDsp,
         env: CEnvelope,
@@ -33,6 +34,7 @@ unsafe extern "C" {
     pub safe fn wigtalom_avr_new_for(model: DeviceModel) -> CAvrFed;
     pub safe fn wigtalom_avr_check(seq: CAvr, now: u64) -> CAvrFed;
     pub safe fn wigtalom_avr_result(seq: CAvr) -> CAvrFinished;
+    fn wigtalom_avr_sheet(seq: CAvr, buf: *mut u8, buf_len: usize, at: usize) -> CWritten;
     fn wigtalom_avr_feed(
         seq: CAvr,
         env: CEnvelope,
@@ -46,6 +48,7 @@ unsafe extern "C" {
 
     pub safe fn wigtalom_pi_new() -> CPiFed;
     pub safe fn wigtalom_pi_result(seq: CPi) -> CPiFinished;
+    fn wigtalom_pi_sheet(seq: CPi, buf: *mut u8, buf_len: usize, at: usize) -> CWritten;
     fn wigtalom_pi_feed(
         seq: CPi,
         env: CEnvelope,
@@ -127,3 +130,17 @@ feed!(pi_feed(CPi) -> CPiFed, wigtalom_pi_feed);
 feed!(avr_config_feed(CAvrConfig) -> CAvrConfigFed, wigtalom_avr_config_feed);
 feed!(arm_feed(CArm) -> CArmFed, wigtalom_arm_feed);
 feed!(disarm_feed(CDisarm) -> CDisarmFed, wigtalom_disarm_feed);
+
+/// Defines a sheet over the library's: the lent buffer as pointer and length.
+macro_rules! sheet {
+    ($name:ident($seq:ty), $library:ident) => {
+        pub fn $name(seq: $seq, buf: &mut [u8], at: usize) -> CWritten {
+            // SAFETY: pointer and length are those of a slice that the call alone has.
+            unsafe { $library(seq, buf.as_mut_ptr(), buf.len(), at) }
+        }
+    };
+}
+
+sheet!(dsp_sheet(CDsp), wigtalom_dsp_sheet);
+sheet!(avr_sheet(CAvr), wigtalom_avr_sheet);
+sheet!(pi_sheet(CPi), wigtalom_pi_sheet);

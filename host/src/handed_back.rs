@@ -5,12 +5,13 @@
 use crate::BusAddr;
 use crate::device::DeviceModel;
 use crate::ffi::{self, Lent};
-use crate::message::{ConfigAck, Envelope, Message};
-use crate::records::{CArm, CAvr, CAvrConfig, CDsp, CPi};
+use crate::message::{AvrStatus, ConfigAck, DspStatus, DspStatus80, Envelope, Message, PiStatus};
+use crate::records::{CArm, CAvr, CAvrConfig, CDsp, CPi, CTick, CTicks, CWritten, MAX_TICKS};
 use crate::settings::AvrSettings;
 
 const TEXT_TOO_LONG: u8 = 1;
 const READING_TOO_LARGE: u8 = 3;
+const PART_TOO_SHORT: u8 = 5;
 
 /// Facts that no device info gives.
 const MODEL: DeviceModel = DeviceModel {
@@ -28,18 +29,33 @@ macro_rules! refused {
     }};
 }
 
+fn env(src: BusAddr, message: Message) -> Envelope {
+    let type_id = 0xAA;
+    Envelope {
+        src,
+        type_id,
+        message,
+    }
+}
+
 /// An acknowledgement from this device, with this text.
 fn ack(src: BusAddr, text: &[u8]) -> Lent<'_> {
-    let env = Envelope {
-        src,
-        type_id: 0xAA,
-        message: Message::ConfigAck(ConfigAck::default()),
-    };
+    let ack = Message::ConfigAck(ConfigAck::default());
     Lent {
-        env: env.lent().env,
+        env: env(src, ack).lent().env,
         text,
         payload: &[],
     }
+}
+
+/// Two ticks, and something in the last place.
+fn ticks() -> CTicks {
+    let mut ticks = CTicks {
+        ticks: [CTick { reading: 5, how: 2 }; MAX_TICKS],
+        len: 2,
+    };
+    ticks.ticks[MAX_TICKS - 1] = CTick { reading: 7, how: 1 };
+    ticks
 }
 
 fn dsp() -> CDsp {
@@ -48,6 +64,7 @@ fn dsp() -> CDsp {
     seq.refused.type_id = 9;
     seq.status.payload.len = 3;
     seq.dev_info.value.text.bytes[255] = 1;
+    seq.ticks = ticks();
     seq
 }
 
@@ -55,6 +72,7 @@ fn avr() -> CAvr {
     let mut seq = ffi::wigtalom_avr_new_for(MODEL).seq;
     seq.repoll_at.value = 5;
     seq.replies.if_cal.value.len = 3;
+    seq.ticks = ticks();
     seq
 }
 
@@ -62,6 +80,7 @@ fn pi() -> CPi {
     let mut seq = ffi::wigtalom_pi_new().seq;
     seq.step.idx = 4;
     seq.replies.dev_info.value.payload.bytes[0] = 1;
+    seq.ticks = ticks();
     seq
 }
 
@@ -98,17 +117,79 @@ fn by_a_refused_check() {
     refused!(late, READING_TOO_LARGE, avr());
 }
 
-/// An accepted call doesn't look at it, and gives back zeros there.
+/// A sheet hands back no state. The buffer is as it was.
+#[test]
+fn by_a_refused_sheet() {
+    let mut buf = [b'.'; 15];
+    let refused = CWritten {
+        refusal: PART_TOO_SHORT,
+        len: 0,
+    };
+    for at in [0, 15, 16] {
+        assert_eq!(ffi::dsp_sheet(dsp(), &mut buf, at), refused);
+        assert_eq!(ffi::avr_sheet(avr(), &mut buf, at), refused);
+        assert_eq!(ffi::pi_sheet(pi(), &mut buf, at), refused);
+        assert_eq!(buf, [b'.'; 15]);
+    }
+}
+
+/// An accepted call doesn't look at it, and gives back zeros there. The
+/// places of ticks are all looked at, and come back.
 #[test]
 fn not_by_an_accepted_call() {
-    let lent = ack(BusAddr::App, &[]);
+    let (lent, ticks) = (ack(BusAddr::App, &[]), ticks());
     let fed = ffi::dsp_feed(dsp(), &lent, 0);
-    assert_eq!((fed.refusal, fed.seq), (0, ffi::wigtalom_dsp_new().seq));
+    let new = ffi::wigtalom_dsp_new().seq;
+    assert_eq!((fed.refusal, fed.seq), (0, CDsp { ticks, ..new }));
     let fed = ffi::avr_feed(avr(), &lent, 0, 0);
     let new = ffi::wigtalom_avr_new_for(MODEL).seq;
-    assert_eq!((fed.refusal, fed.seq, new.model), (0, new, MODEL));
+    assert_eq!((fed.refusal, fed.seq), (0, CAvr { ticks, ..new }));
+    assert_eq!(new.model, MODEL);
     let fed = ffi::pi_feed(pi(), &lent);
-    assert_eq!((fed.refusal, fed.seq), (0, ffi::wigtalom_pi_new().seq));
+    let new = ffi::wigtalom_pi_new().seq;
+    assert_eq!((fed.refusal, fed.seq), (0, CPi { ticks, ..new }));
     let fed = ffi::arm_feed(arm(), &lent);
     assert_eq!((fed.refusal, fed.seq), (0, ffi::wigtalom_arm_new().seq));
+}
+
+/// Without a place for one tick more. No call gives more ticks than places.
+fn full() -> [CTicks; 3] {
+    [MAX_TICKS, MAX_TICKS + 1, usize::MAX].map(|len| CTicks { len, ..ticks() })
+}
+
+/// Holds a sheet to the lines of all places.
+fn of_all_places<S>(seq: S, exact: fn(S, &mut [u8], usize) -> CWritten, letter: char) {
+    let mut buf = [b'.'; 200];
+    let written = exact(seq, &mut buf, 0);
+    let lines = (1..MAX_TICKS).map(|number| format!("{letter},{number},5,K\n"));
+    let sheet = lines.collect::<String>() + &format!("{letter},16,7,N\n");
+    assert_eq!((written.refusal, written.len), (0, sheet.len()));
+    assert_eq!(buf, *format!("{sheet:.<200}").as_bytes());
+}
+
+#[test]
+fn more_ticks_than_places() {
+    for ticks in full() {
+        of_all_places(CDsp { ticks, ..dsp() }, ffi::dsp_sheet, 'D');
+        of_all_places(CAvr { ticks, ..avr() }, ffi::avr_sheet, 'A');
+        of_all_places(CPi { ticks, ..pi() }, ffi::pi_sheet, 'P');
+    }
+}
+
+/// The step goes on, the ticks stay.
+#[test]
+fn a_tick_that_finds_no_place() {
+    let status = DspStatus::V80(DspStatus80::default());
+    let from_dsp = env(BusAddr::Dsp, Message::DspStatus(status));
+    let from_avr = env(BusAddr::Avr, Message::AvrStatus(AvrStatus::default()));
+    let from_pi = env(BusAddr::Pi, Message::PiStatus(PiStatus::default()));
+    for ticks in full() {
+        let fed = ffi::dsp_feed(CDsp { ticks, ..dsp() }, &from_dsp.lent(), 7);
+        assert_eq!((fed.refusal, fed.seq.step, fed.seq.ticks), (0, 1, ticks));
+        let fed = ffi::avr_feed(CAvr { ticks, ..avr() }, &from_avr.lent(), 7, 7);
+        assert_eq!((fed.refusal, fed.seq.step, fed.seq.ticks), (0, 1, ticks));
+        let fed = ffi::pi_feed(CPi { ticks, ..pi() }, &from_pi.lent());
+        let step = fed.seq.step.number;
+        assert_eq!((fed.refusal, step, fed.seq.ticks), (0, 1, ticks));
+    }
 }

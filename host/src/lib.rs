@@ -43,6 +43,7 @@ mod pi;
 mod records;
 mod refusal;
 mod settings;
+mod sheet;
 mod steps;
 
 #[cfg(test)]
@@ -68,3 +69,4 @@ pub use message::{
 pub use pi::{PiSequencer, PiState, PiSync};
 pub use refusal::Refusal;
 pub use settings::{AvrSettings, MevoSettings};
+pub use sheet::{How, Tick};

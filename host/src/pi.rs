@@ -6,6 +6,7 @@ use crate::ffi;
 use crate::message::{CamConfig, DevInfoResp, Envelope};
 use crate::records::CPi;
 use crate::refusal::Refusal;
+use crate::sheet::{self, Tick};
 use crate::steps;
 
 /// The start-up of the camera's Pi.
@@ -40,6 +41,8 @@ pub struct PiState {
     pub ssid: String,
     /// Its password.
     pub password: String,
+    /// The entries ticked so far.
+    pub ticks: Vec<Tick>,
 }
 
 impl PiSequencer {
@@ -88,6 +91,26 @@ impl PiSequencer {
         })
     }
 
+    /// The sheet of the entries ticked so far, with the letter P and the
+    /// reading 0, else as [`DspSequencer::sheet`](crate::DspSequencer::sheet)
+    /// has it.
+    #[must_use]
+    pub fn sheet(&self) -> String {
+        sheet::whole(self.0, ffi::pi_sheet)
+    }
+
+    /// Writes the sheet into the part of `buf` that begins at place `at` and
+    /// reaches to the buffer's end. Gives how many bytes were written. Those
+    /// before the place and behind the sheet stay.
+    ///
+    /// # Errors
+    ///
+    /// The part is shorter than the sheet, or the place is past the buffer's
+    /// end (5). Then nothing is written.
+    pub fn sheet_into(&self, buf: &mut [u8], at: usize) -> Result<usize, Refusal> {
+        ffi::pi_sheet(self.0, buf, at).value()
+    }
+
     /// What is stored so far, for logs and tests.
     #[must_use]
     pub fn state(&self) -> PiState {
@@ -99,6 +122,7 @@ impl PiSequencer {
             cam_config: r.cam_config.some.then_some(r.cam_config.value),
             ssid: r.ssid.text(),
             password: r.password.text(),
+            ticks: self.0.ticks.value(),
         }
     }
 }

@@ -1,5 +1,5 @@
 //! The records that cross to the library and back, laid out as crates/host,
-//! crates/abi_values, abi_messages, abi, abi_dsp, abi_avr, abi_pi,
+//! crates/abi_values, abi_messages, abi, abi_sheet, abi_dsp, abi_avr, abi_pi,
 //! abi_avr_config, abi_arm and abi_disarm have them.
 
 use std::fmt;
@@ -11,6 +11,9 @@ use crate::message::{
 
 /// The places of a settings list.
 pub const MAX_PARAMS: usize = 32;
+
+/// The places for ticks of a start-up.
+pub const MAX_TICKS: usize = 16;
 
 /// Declares records with public fields.
 macro_rules! records {
@@ -165,6 +168,25 @@ records! {
         some: bool,
         value: Stored,
     }
+
+    /// `how` is 0 for a reply, 1 for a nack, 2 for a check.
+    CTick {
+        reading: u64,
+        how: u8,
+    }
+
+    CTicks {
+        ticks: [CTick; MAX_TICKS],
+        len: usize,
+    }
+}
+
+// What a sheet answers.
+records! {
+    CWritten {
+        refusal: u8,
+        len: usize,
+    }
 }
 
 // The DSP start-up.
@@ -198,6 +220,7 @@ records! {
         power_mode_unanswered: bool,
         deadline: COptionInstant,
         last: u64,
+        ticks: CTicks,
     }
 
     CDspFed {
@@ -252,6 +275,7 @@ records! {
         cal_deadline: COptionInstant,
         repoll_at: COptionInstant,
         last: u64,
+        ticks: CTicks,
     }
 
     CAvrFed {
@@ -297,6 +321,7 @@ records! {
     CPi {
         step: CPiStep,
         replies: CPiReplies,
+        ticks: CTicks,
     }
 
     CPiFed {

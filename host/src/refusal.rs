@@ -3,7 +3,8 @@
 use std::error::Error;
 use std::fmt;
 
-/// Why a call was refused. A refused call sends nothing and changes nothing.
+/// Why a call was refused. A refused call sends nothing, writes nothing and
+/// changes nothing.
 #[derive(Debug, Clone, Copy, PartialEq, Eq, Hash)]
 pub enum Refusal {
     /// 1: a text of more than 256 bytes.
@@ -14,6 +15,9 @@ pub enum Refusal {
     ReadingTooLarge,
     /// 4: more than 32 parameters.
     TooManyParams,
+    /// 5: a part of a buffer, from a place on, that is shorter than the sheet;
+    /// or a place past the buffer's end.
+    PartTooShort,
     /// 11: a clock reading below the last accepted one.
     ReadingBelowLast,
     /// 12: a result before the sequence is complete.
@@ -34,6 +38,7 @@ impl Refusal {
             Refusal::PayloadTooLong => 2,
             Refusal::ReadingTooLarge => 3,
             Refusal::TooManyParams => 4,
+            Refusal::PartTooShort => 5,
             Refusal::ReadingBelowLast => 11,
             Refusal::NotDone => 12,
             Refusal::RetriesFull => 13,
@@ -49,6 +54,7 @@ impl Refusal {
             2 => Err(Refusal::PayloadTooLong),
             3 => Err(Refusal::ReadingTooLarge),
             4 => Err(Refusal::TooManyParams),
+            5 => Err(Refusal::PartTooShort),
             11 => Err(Refusal::ReadingBelowLast),
             12 => Err(Refusal::NotDone),
             13 => Err(Refusal::RetriesFull),
@@ -64,6 +70,7 @@ impl fmt::Display for Refusal {
             Refusal::PayloadTooLong => "a payload of more than 256 bytes",
             Refusal::ReadingTooLarge => "a clock reading that is too large",
             Refusal::TooManyParams => "more than 32 parameters",
+            Refusal::PartTooShort => "no room for the sheet from its place on",
             Refusal::ReadingBelowLast => "a clock reading below the last one",
             Refusal::NotDone => "the sequence is not complete",
             Refusal::RetriesFull => "no more nacks of an arm can be counted",

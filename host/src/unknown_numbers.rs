@@ -6,7 +6,7 @@ use crate::BusAddr;
 use crate::device::DeviceModel;
 use crate::ffi::{self, Lent};
 use crate::message::{AvrStatus, ConfigAck, DspStatus, DspStatus46, Envelope, Message};
-use crate::records::{CAvr, CDsp, CEnvelope, CParamValue, CSettings};
+use crate::records::{CAvr, CDsp, CEnvelope, CParamValue, CPi, CSettings, CTicks, CWritten};
 use crate::settings::AvrSettings;
 
 const UNKNOWN: u8 = 21;
@@ -19,6 +19,28 @@ macro_rules! declined {
         assert!(!fed.action.some);
         assert_eq!(fed.seq, seq);
     }};
+}
+
+/// Holds a sheet to 21, and the lent buffer to what it was. A place past its
+/// end isn't told first.
+fn not_written<S: Copy>(seq: S, exact: fn(S, &mut [u8], usize) -> CWritten) {
+    let mut buf = [b'.'; 512];
+    for at in [0, 512, 513] {
+        let written = exact(seq, &mut buf, at);
+        assert_eq!((written.refusal, written.len), (UNKNOWN, 0));
+        assert_eq!(buf, [b'.'; 512]);
+    }
+}
+
+/// The same ticks with a `how` that there is not, in the first place and in
+/// the last, whether they hold a tick or not.
+fn wrong_ticks(ticks: CTicks) -> impl Iterator<Item = CTicks> {
+    let places = [(0, 3), (0, 255), (15, 3), (15, 255)];
+    places.into_iter().map(move |(place, how)| {
+        let mut wrong = ticks;
+        wrong.ticks[place].how = how;
+        wrong
+    })
 }
 
 /// An acknowledgement of the AVR, without bytes.
@@ -156,33 +178,41 @@ fn of_a_dsp_start_up() {
         with(|seq| seq.status.value.layout = 2),
         with(|seq| seq.refused.src = 0),
     ];
-    for seq in wrong {
+    let ticks = wrong_ticks(dsp().ticks).map(|ticks| CDsp { ticks, ..dsp() });
+    for seq in wrong.into_iter().chain(ticks) {
         declined!(ffi::dsp_feed(seq, &ack(), 7), seq);
         declined!(ffi::wigtalom_dsp_check(seq, 7), seq);
         assert_eq!(ffi::wigtalom_dsp_result(seq).refusal, UNKNOWN);
         let taken = ffi::wigtalom_dsp_take_refused(seq);
         assert_eq!((taken.refusal, taken.seq), (UNKNOWN, seq));
         assert!(!taken.refused.some);
+        not_written(seq, ffi::dsp_sheet);
     }
 }
 
 #[test]
 fn of_an_avr_start_up() {
-    for step in [13, 255] {
-        let mut seq = avr();
-        seq.step = step;
+    let wrong = [13, 255].map(|step| CAvr { step, ..avr() });
+    let ticks = wrong_ticks(avr().ticks).map(|ticks| CAvr { ticks, ..avr() });
+    for seq in wrong.into_iter().chain(ticks) {
         declined!(ffi::avr_feed(seq, &ack(), 7, 7), seq);
         declined!(ffi::wigtalom_avr_check(seq, 7), seq);
         assert_eq!(ffi::wigtalom_avr_result(seq).refusal, UNKNOWN);
+        not_written(seq, ffi::avr_sheet);
     }
 }
 
 #[test]
 fn of_a_pi_start_up_and_a_disarm() {
-    let mut pi = ffi::wigtalom_pi_new().seq;
-    pi.step.number = 9;
-    declined!(ffi::pi_feed(pi, &ack()), pi);
-    assert_eq!(ffi::wigtalom_pi_result(pi).refusal, UNKNOWN);
+    let new = ffi::wigtalom_pi_new().seq;
+    let mut step = new;
+    step.step.number = 9;
+    let ticks = wrong_ticks(new.ticks).map(|ticks| CPi { ticks, ..new });
+    for pi in ticks.chain([step]) {
+        declined!(ffi::pi_feed(pi, &ack()), pi);
+        assert_eq!(ffi::wigtalom_pi_result(pi).refusal, UNKNOWN);
+        not_written(pi, ffi::pi_sheet);
+    }
     let mut disarm = ffi::wigtalom_disarm_new().seq;
     disarm.step = 4;
     declined!(ffi::disarm_feed(disarm, &ack()), disarm);

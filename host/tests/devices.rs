@@ -1,6 +1,7 @@
 //! The made-up devices through all six sequences. The sends that are
 //! expected are those of seq.rs, written from its text; the rig's, which
-//! seq.rs doesn't know, are a Mevo's without the Pi.
+//! seq.rs doesn't know, are a Mevo's without the Pi. The sheets are written
+//! from the scope.
 
 mod made_up;
 
@@ -8,9 +9,9 @@ use made_up::{Device, Made, avr_status, cam_config, factory_cal, if_cal, prod_in
 use wigtalom::{
     Action, ArmSequencer, AvrConfigCmd, AvrConfigSequencer, AvrSequencer, AvrSettings, AvrSync,
     BusAddr, CalDataReq, Command, ConfigAck, ConfigResp, DevInfoResp, DeviceModel, DisarmSequencer,
-    DspSequencer, DspSync, Envelope, Message, MevoSettings, ModeSet, NetConfigReq, ParamData,
-    ParamReadReq, ParamValue, PiSequencer, PiSync, ProdInfoReq, RadarCal, StatusPoll, TimeSync,
-    keepalive_actions, keepalive_actions_for, result_ack,
+    DspSequencer, DspSync, Envelope, How, Message, MevoSettings, ModeSet, NetConfigReq, ParamData,
+    ParamReadReq, ParamValue, PiSequencer, PiSync, ProdInfoReq, RadarCal, StatusPoll, Tick,
+    TimeSync, keepalive_actions, keepalive_actions_for, result_ack,
 };
 
 const WALL: u64 = 1_763_240_000;
@@ -62,7 +63,9 @@ fn drive(
     }
 }
 
-fn start_dsp(device: &mut Device) -> (Vec<Action>, DspSync) {
+/// What is sent, the result and the sheet. An entry is ticked each
+/// millisecond.
+fn start_dsp(device: &mut Device) -> (Vec<Action>, DspSync, String) {
     let (mut seq, first) = DspSequencer::new();
     let mut now = 0;
     let sent = drive(device, first, |env| {
@@ -71,10 +74,11 @@ fn start_dsp(device: &mut Device) -> (Vec<Action>, DspSync) {
     });
     assert!(seq.is_complete());
     assert_eq!(seq.take_refused(), None);
-    (sent, seq.into_result().unwrap())
+    (sent, seq.into_result().unwrap(), seq.sheet())
 }
 
-fn start_avr(device: &mut Device, model: DeviceModel) -> (Vec<Action>, AvrSync) {
+/// The same of the AVR.
+fn start_avr(device: &mut Device, model: DeviceModel) -> (Vec<Action>, AvrSync, String) {
     let (mut seq, first) = AvrSequencer::new_for(model);
     let mut now = 0;
     let sent = drive(device, first, |env| {
@@ -82,7 +86,13 @@ fn start_avr(device: &mut Device, model: DeviceModel) -> (Vec<Action>, AvrSync) 
         seq.feed(env, now, WALL).unwrap()
     });
     assert!(seq.is_complete());
-    (sent, seq.into_result().unwrap())
+    (sent, seq.into_result().unwrap(), seq.sheet())
+}
+
+/// The sheet of so many entries, each ticked by a reply.
+fn replies(start_up: char, entries: u64) -> String {
+    let line = |number| format!("{start_up},{number},{number}000000,R\n");
+    (1..=entries).map(line).collect()
 }
 
 /// The power-mode write is sent where the model has the step.
@@ -109,6 +119,14 @@ fn dsp_result(device: &Device, model: DeviceModel) -> DspSync {
     }
 }
 
+/// The Xi refuses the query, and has the power-mode write.
+fn dsp_sheet(made: Made) -> String {
+    match made {
+        Made::Xi => replies('D', 8).replace("2000000,R", "2000000,N"),
+        _ => replies('D', 7),
+    }
+}
+
 #[test]
 fn dsp_start_ups() {
     let devices = [
@@ -119,9 +137,10 @@ fn dsp_start_ups() {
     ];
     for (made, model) in devices {
         let mut device = Device::new(made);
-        let (sent, sync) = start_dsp(&mut device);
+        let (sent, sync, sheet) = start_dsp(&mut device);
         assert_eq!(sent, dsp_sends(model.power_mode));
         assert_eq!(sync, dsp_result(&device, model));
+        assert_eq!(sheet, dsp_sheet(made));
         assert_eq!(DeviceModel::from_dev_info(&sync.dev_info), model);
     }
 }
@@ -173,6 +192,12 @@ fn to_power_mode(now: u64) -> DspSequencer {
     seq
 }
 
+/// Of that, at 3 s.
+fn sheet_to_power_mode() -> String {
+    let replies = (3..=7).map(|number| format!("D,{number},3000000000,R\n"));
+    "D,1,5,R\nD,2,2000000005,K\n".to_string() + &replies.collect::<String>()
+}
+
 #[test]
 fn a_xi_that_does_not_answer() {
     let mut seq = to_power_mode(3 * SECOND);
@@ -182,6 +207,7 @@ fn a_xi_that_does_not_answer() {
     let sync = seq.into_result().unwrap();
     assert!(sync.power_mode_unanswered);
     assert_eq!((sync.hw_info, sync.model), (None, DeviceModel::XI));
+    assert_eq!(seq.sheet(), sheet_to_power_mode() + "D,8,5000000000,K\n");
 }
 
 fn nack(src: BusAddr, acked_cmd: u8) -> Envelope {
@@ -203,8 +229,11 @@ fn a_xi_that_refuses_the_power_mode() {
     let refused = nack(BusAddr::Dsp, 0x3F);
     assert_eq!(seq.feed(&refused, 4 * SECOND), Ok(vec![]));
     assert!(seq.is_complete());
+    let sheet = sheet_to_power_mode() + "D,8,4000000000,N\n";
+    assert_eq!(seq.sheet(), sheet);
     assert_eq!(seq.take_refused(), Some(refused));
     assert_eq!(seq.take_refused(), None);
+    assert_eq!(seq.sheet(), sheet);
     assert!(!seq.into_result().unwrap().power_mode_unanswered);
 }
 
@@ -216,6 +245,23 @@ fn an_avr_that_refuses_its_poll() {
     assert_eq!(seq.check_cal_timeout(SECOND + 4), Ok(vec![]));
     assert_eq!(seq.check_cal_timeout(SECOND + 5), Ok(first));
     assert_eq!(seq.check_cal_timeout(9 * SECOND), Ok(vec![]));
+    assert_eq!(seq.sheet(), "");
+}
+
+/// A status at 5 s, and the query passed by a check at 7 s.
+#[test]
+fn a_sheet_of_two_lines() {
+    let (mut device, (mut seq, first)) = (Device::new(Made::Xi), DspSequencer::new());
+    assert_eq!(seq.sheet(), "");
+    first.iter().for_each(|action| device.take(action));
+    let status = device.outbox.pop_front().unwrap();
+    seq.feed(&status, 5 * SECOND).unwrap();
+    assert_eq!(seq.sheet(), "D,1,5000000000,R\n");
+    seq.check_timeout(7 * SECOND).unwrap();
+    assert_eq!(seq.sheet(), "D,1,5000000000,R\nD,2,7000000000,K\n");
+    let tick = |reading, how| Tick { reading, how };
+    let ticks = [tick(5 * SECOND, How::Reply), tick(7 * SECOND, How::Check)];
+    assert_eq!(seq.state().ticks, ticks);
 }
 
 /// All have the IF calibration; the rest hangs on one fact.
@@ -242,8 +288,10 @@ fn avr_sends(factory_cal: bool) -> Vec<Action> {
 #[test]
 fn avr_start_up_of_a_xi() {
     let mut device = Device::new(Made::Xi);
-    let (sent, sync) = start_avr(&mut device, DeviceModel::XI);
+    let (sent, sync, sheet) = start_avr(&mut device, DeviceModel::XI);
     assert_eq!(sent, avr_sends(false));
+    assert_eq!(sheet, replies('A', 8));
+    assert!(sheet.ends_with("\nA,8,8000000,R\n"));
     let result = AvrSync {
         status: avr_status(),
         dev_info: device.dev_info(BusAddr::Avr),
@@ -259,8 +307,9 @@ fn avr_start_up_of_a_xi() {
 fn avr_start_ups_of_mevos() {
     for made in [Made::Plus, Made::Gen2] {
         let mut device = Device::new(made);
-        let (sent, sync) = start_avr(&mut device, DeviceModel::MEVO);
+        let (sent, sync, sheet) = start_avr(&mut device, DeviceModel::MEVO);
         assert_eq!(sent, avr_sends(true));
+        assert_eq!(sheet, replies('A', 12));
         assert_eq!(sync.status, avr_status());
         assert_eq!(sync.dev_info, device.dev_info(BusAddr::Avr));
         assert_eq!(sync.factory_cal, Some(factory_cal()));
@@ -290,6 +339,8 @@ fn pi_start_ups_of_mevos() {
             password: "TEST-PASS".into(),
         };
         assert_eq!(seq.into_result(), Ok(result));
+        let lines = (1..=16).map(|number| format!("P,{number},0,R\n"));
+        assert_eq!(seq.sheet(), lines.collect::<String>());
     }
 }
 
@@ -354,7 +405,7 @@ fn arms_and_disarms() {
     ];
     for (made, camera) in devices {
         let mut device = Device::new(made);
-        let (_, result) = start_dsp(&mut device);
+        let (_, result, _) = start_dsp(&mut device);
         let (mut seq, first) = ArmSequencer::new_for(result.model);
         let sent = drive(&mut device, first, |env| seq.feed(env).unwrap());
         assert_eq!(sent, arm_sends(camera));
@@ -411,11 +462,12 @@ fn single_sends() {
 #[test]
 fn a_rig() {
     let mut device = Device::new(Made::Rig);
-    let (sent, DspSync { model, .. }) = start_dsp(&mut device);
+    let (sent, DspSync { model, .. }, _) = start_dsp(&mut device);
     assert_eq!((sent.len(), model), (7, DeviceModel::RIG));
     assert_eq!(sent, dsp_sends(false));
-    let (sent, sync) = start_avr(&mut device, model);
+    let (sent, sync, sheet) = start_avr(&mut device, model);
     assert_eq!(sent.len(), 12);
+    assert_eq!(sheet, replies('A', 12));
     assert_eq!(sent, avr_sends(true));
     assert_eq!(sync.factory_cal, Some(factory_cal()));
     assert_eq!(sync.avr_config, Some(device.avr_config()));
@@ -447,7 +499,7 @@ fn every_model_by_its_facts() {
 
         let mut device = Device::new(Made::Plus);
         assert_eq!(AvrSequencer::new_for(model).0.state().model, model);
-        let (sent, sync) = start_avr(&mut device, model);
+        let (sent, sync, _) = start_avr(&mut device, model);
         assert_eq!(sent.len(), if model.factory_cal { 12 } else { 8 });
         assert_eq!(sent, avr_sends(model.factory_cal));
         assert_eq!(sync.factory_cal.is_some(), model.factory_cal);

@@ -1,8 +1,11 @@
 //! The differential run: the calls of `oracle/compare` through the Rust and
 //! through the library, with floats as numbers. After each call the outcome,
 //! the send and the whole state are compared, and the result at the end of a
-//! sequence and where it is asked for; floats by their bits. Bytes that are
-//! lent to a kind without a place for them are left out on both sides.
+//! sequence and where it is asked for; floats by their bits. The sheet of a
+//! start-up, which the Rust hasn't, is compared after each call with what the
+//! oracle keeps by the Rust's steps, and where a place is given the whole
+//! buffer. Bytes that are lent to a kind without a place for them are left out
+//! on both sides.
 //!
 //! WIGTALOM_CALLS says how many calls of each sequence, WIGTALOM_SEED from
 //! which seed.
@@ -45,12 +48,13 @@ fn compare(which: Which) {
     }
 }
 
-/// Each refusal was met, and NaNs wherever floats are stored.
+/// Each refusal was met, NaNs wherever floats are stored, and each way in
+/// which entries are ticked.
 fn nothing_missing(which: Which, counts: &Counts) {
     let (refused, floats): (&[u8], bool) = match which {
-        Which::Dsp => (&[1, 2, 3, 11, 12], false),
-        Which::Avr => (&[1, 2, 3, 11, 12], true),
-        Which::Pi => (&[1, 2, 12], true),
+        Which::Dsp => (&[1, 2, 3, 5, 11, 12], false),
+        Which::Avr => (&[1, 2, 3, 5, 11, 12], true),
+        Which::Pi => (&[1, 2, 5, 12], true),
         Which::AvrConfig => (&[1, 2, 4], true),
         Which::Disarm => (&[1, 2], false),
         Which::Arm => (&[1, 2, 13], false),
@@ -58,6 +62,13 @@ fn nothing_missing(which: Which, counts: &Counts) {
     assert!(counts.refused.keys().eq(refused));
     let [given, answered, stored] = counts.nans;
     assert!(given > 0 && (answered > 0) == floats && (stored > 0) == floats);
+    let ticked = match which {
+        Which::Dsp => [true, true, true],
+        Which::Avr => [true, false, true],
+        Which::Pi => [true, false, false],
+        _ => [false; 3],
+    };
+    assert_eq!(counts.ticked.map(|count| count > 0), ticked);
 }
 
 /// Past the test harness, which would keep it back.
@@ -67,6 +78,10 @@ fn print(which: Which, seed: u64, counts: &[Counts; 6]) {
         let (word, [given, answered, stored]) = (which.word(), counts.nans);
         let (calls, complete) = (counts.calls, counts.complete);
         text += &format!("  {word:<10} {calls:>8} calls, {complete:>6} sequences to the end; ");
+        if which.is_start_up() {
+            let [replies, nacks, checks] = counts.ticked;
+            text += &format!("ticked by replies {replies}, nacks {nacks}, checks {checks}; ");
+        }
         text += &format!("NaNs: {given} handed in, {answered} compared in answers, ");
         text += &format!("{stored} in states; refused: {}\n", refused(counts));
     }
@@ -129,7 +144,10 @@ fn flip(fields: &mut Fields, field: &str, bit: u32) {
 fn must_differ(which: Which, alter: fn(&mut Fields), field: &str) {
     match run(which, 100_000, SEED, alter) {
         Ok(_) => panic!("{}: not noticed", which.word()),
-        Err(difference) => assert!(difference.contains(field), "{difference}"),
+        Err(difference) => {
+            let named = format!("(\"{field}\", ");
+            assert!(difference.contains(&named), "{difference}");
+        }
     }
 }
 
@@ -157,6 +175,42 @@ fn a_wrong_fact_of_a_model_is_noticed() {
         must_differ(which, |f| wrong(f, "factory_cal"), "factory_cal");
         must_differ(which, |f| wrong(f, "power_mode"), "power_mode");
     }
+}
+
+#[test]
+fn a_wrong_sheet_is_noticed() {
+    fn wrong(fields: &mut Fields, field: &str, from: &[u8], to: &[u8]) {
+        for (name, value) in &mut fields.list {
+            match value {
+                Value::Bytes(bytes) if *name == field => {
+                    let at = bytes.windows(from.len()).position(|w| w == from);
+                    let part = at.and_then(|at| bytes.get_mut(at..at + to.len()));
+                    part.into_iter().for_each(|w| w.copy_from_slice(to));
+                }
+                _ => {}
+            }
+        }
+    }
+    must_differ(Which::Dsp, |f| wrong(f, "sheet", b"K\n", b"N\n"), "sheet");
+    must_differ(Which::Dsp, |f| wrong(f, "sheet", b"N\n", b"R\n"), "sheet");
+    must_differ(Which::Avr, |f| wrong(f, "sheet", b"A,8", b"A,9"), "sheet");
+    must_differ(Which::Pi, |f| wrong(f, "sheet", b",0,", b",1,"), "sheet");
+    must_differ(Which::Dsp, |f| wrong(f, "ticks", b"N", b"R"), "ticks");
+    must_differ(Which::Avr, |f| wrong(f, "ticks", b"K", b"R"), "ticks");
+    must_differ(Which::Pi, |f| wrong(f, "ticks", b"0R", b"1R"), "ticks");
+    for which in Which::START_UPS {
+        // A byte outside of it.
+        must_differ(which, |f| wrong(f, "buffer", b".", b" "), "buffer");
+    }
+    let too_many = |f: &mut Fields| {
+        for (name, value) in &mut f.list {
+            match value {
+                Value::Number(count) if *name == "wrote" => *count += 1,
+                _ => {}
+            }
+        }
+    };
+    must_differ(Which::Avr, too_many, "wrote");
 }
 
 #[test]

@@ -1,10 +1,10 @@
-//! Calls that are refused: each number, no send, and the sequencer as it
-//! was. (Number 21 can't be reached from here: src/unknown_numbers.rs.)
+//! Calls that are refused: each number, no send, nothing written, and the
+//! sequencer as it was. (Number 21 can't be reached from here: src/unknown_numbers.rs.)
 
 use wigtalom::{
     ArmSequencer, AvrConfigSequencer, AvrSequencer, AvrSettings, AvrStatus, BusAddr, ConfigAck,
     DevInfoResp, DeviceModel, DisarmSequencer, DspSequencer, DspStatus, DspStatus46, Envelope,
-    Message, ParamData, ParamValue, PiSequencer, Refusal, Text,
+    Message, ParamData, ParamValue, PiSequencer, PiStatus, Refusal, Text,
 };
 
 const LAST_READING: u64 = 18_446_744_071_709_551_615;
@@ -112,6 +112,74 @@ fn too_many_parameters() {
     assert_eq!(seq.state().settings, settings);
 }
 
+/// A sheet into every place of buffers of every length up to some. What
+/// stands around a lent buffer is never written, nor what stands in it
+/// outside the sheet.
+fn written(sheet: &str, exact: impl Fn(&mut [u8], usize) -> Result<usize, Refusal>) {
+    const AROUND: usize = 64;
+    for len in 0..sheet.len() + 6 {
+        for at in 0..len + 3 {
+            let mut bytes = vec![b'.'; AROUND + len + AROUND];
+            let mut expected = bytes.clone();
+            let answer = exact(&mut bytes[AROUND..AROUND + len], at);
+            if at + sheet.len() <= len {
+                assert_eq!(answer, Ok(sheet.len()));
+                expected[AROUND + at..][..sheet.len()].copy_from_slice(sheet.as_bytes());
+            } else {
+                assert_eq!(answer, Err(Refusal::PartTooShort));
+            }
+            assert_eq!(bytes, expected, "place {at} of {len}");
+        }
+    }
+}
+
+/// A DSP start-up with a sheet of 34 bytes.
+fn two_ticks() -> DspSequencer {
+    let (mut seq, _) = DspSequencer::new();
+    seq.feed(&dsp_status(), 5_000_000_000).unwrap();
+    seq.check_timeout(7_000_000_000).unwrap();
+    seq
+}
+
+#[test]
+fn a_part_shorter_than_the_sheet() {
+    let dsp = two_ticks();
+    let sheet = "D,1,5000000000,R\nD,2,7000000000,K\n";
+    written(sheet, |buf, at| dsp.sheet_into(buf, at));
+    let (mut avr, _) = AvrSequencer::new_for(DeviceModel::XI);
+    let status = Message::AvrStatus(AvrStatus::default());
+    avr.feed(&env(BusAddr::Avr, status), 10, 0).unwrap();
+    written("A,1,10,R\n", |buf, at| avr.sheet_into(buf, at));
+    let (mut pi, _) = PiSequencer::new();
+    let status = Message::PiStatus(PiStatus::default());
+    pi.feed(&env(BusAddr::Pi, status)).unwrap();
+    written("P,1,0,R\n", |buf, at| pi.sheet_into(buf, at));
+}
+
+/// It fits at the end of a buffer, and past it not.
+#[test]
+fn a_place_past_the_end_for_an_empty_sheet() {
+    let (dsp, _) = DspSequencer::new();
+    let (avr, _) = AvrSequencer::new_for(DeviceModel::XI);
+    let (pi, _) = PiSequencer::new();
+    written("", |buf, at| dsp.sheet_into(buf, at));
+    written("", |buf, at| avr.sheet_into(buf, at));
+    written("", |buf, at| pi.sheet_into(buf, at));
+}
+
+/// With the length of a sheet added some of them would come out small.
+#[test]
+fn a_place_far_past_the_end() {
+    let (seq, (new, _)) = (two_ticks(), DspSequencer::new());
+    let mut buf = [b'.'; 100];
+    let largest = (0..40).map(|less| usize::MAX - less);
+    for at in largest.chain([usize::MAX / 2, usize::MAX / 2 + 1]) {
+        assert_eq!(seq.sheet_into(&mut buf, at), Err(Refusal::PartTooShort));
+        assert_eq!(new.sheet_into(&mut buf, at), Err(Refusal::PartTooShort));
+        assert_eq!(buf, [b'.'; 100]);
+    }
+}
+
 #[test]
 fn a_reading_that_goes_back() {
     let (mut dsp, _) = DspSequencer::new();
@@ -171,6 +239,7 @@ fn refusals_tell_their_numbers() {
         (Refusal::PayloadTooLong, 2),
         (Refusal::ReadingTooLarge, 3),
         (Refusal::TooManyParams, 4),
+        (Refusal::PartTooShort, 5),
         (Refusal::ReadingBelowLast, 11),
         (Refusal::NotDone, 12),
         (Refusal::RetriesFull, 13),

@@ -252,6 +252,26 @@ macro_rules! lists {
 
 lists!(rust::ParamValue wigtalom::ParamValue rust::Action wigtalom::Action);
 
+/// As the oracle keeps them, since the Rust keeps none.
+impl Compared for Vec<wigtalom::Tick> {
+    fn put(&self, name: &'static str, to: &mut Fields) {
+        let ticks: Vec<String> = self.iter().map(stored).collect();
+        match ticks[..] {
+            [] => "none".put(name, to),
+            _ => ticks.join(",").put(name, to),
+        }
+    }
+}
+
+fn stored(tick: &wigtalom::Tick) -> String {
+    let how = match tick.how {
+        wigtalom::How::Reply => 'R',
+        wigtalom::How::Nack => 'N',
+        wigtalom::How::Check => 'K',
+    };
+    format!("{}{how}", tick.reading)
+}
+
 impl Compared for rust::Action {
     fn put(&self, _: &'static str, to: &mut Fields) {
         let rust::Action::Send(command, dest) = self;

@@ -2,10 +2,12 @@
 
 use std::time::{Duration, Instant, SystemTime, UNIX_EPOCH};
 
-use oracle::list::{Begin, Call, Feed, Settings, Which};
+use oracle::list::{Begin, Call, Feed, MOST_LENT, Settings, Which};
 use oracle::model::Model;
 use oracle::refusal;
-use oracle::running::View;
+use oracle::running::{Step, View};
+use oracle::sheet::{self, How, Ticks};
+use wigtalom::Refusal;
 
 use super::fields::{Compared, Fields};
 use super::over::{Over, bytes, envelope};
@@ -19,6 +21,8 @@ pub struct Answers {
     pub ours: Fields,
     /// The number with which the call was to be refused.
     pub refused: Option<u8>,
+    /// How the call ticked an entry of a start-up, if it did.
+    pub ticked: Option<How>,
 }
 
 /// A pair of some sequence.
@@ -36,6 +40,8 @@ struct Pair<R, O> {
     clock: Clock,
     /// The last reading that was accepted; 0 without a clock.
     last: u64,
+    /// Of a start-up, by the Rust's steps.
+    ticks: Option<Ticks>,
 }
 
 impl<R: Theirs + 'static, O: Ours + 'static> Pair<R, O> {
@@ -53,6 +59,7 @@ impl<R: Theirs + 'static, O: Ours + 'static> Pair<R, O> {
             ours,
             clock,
             last: 0,
+            ticks: Ticks::of(R::WHICH),
         })
     }
 
@@ -77,8 +84,10 @@ impl<R: Theirs + 'static, O: Ours + 'static> Pair<R, O> {
         match self.refusal(feed, &mut env) {
             Some(number) => refused(number, &ours, to),
             None => {
+                let before = self.rust.step();
                 let actions = self.rust.feed(&env, now, wall);
                 self.accepted(feed.now, &actions, &ours, to);
+                self.tick(before, feed.now, How::of(&env.message), to);
             }
         }
     }
@@ -88,8 +97,10 @@ impl<R: Theirs + 'static, O: Ours + 'static> Pair<R, O> {
         match self.refusal_of_reading(now) {
             Some(number) => refused(number, &ours, to),
             None => {
+                let before = self.rust.step();
                 let actions = self.rust.check(self.at(now));
                 self.accepted(now, &actions, &ours, to);
+                self.tick(before, now, How::Check, to);
             }
         }
     }
@@ -105,6 +116,29 @@ impl<R: Theirs + 'static, O: Ours + 'static> Pair<R, O> {
         0u8.put("refused", &mut to.rust);
         actions.put("sends", &mut to.rust);
         put_answer(ours, to);
+    }
+
+    /// An accepted call ticks an entry exactly if it changes the step.
+    fn tick(&mut self, before: Step, now: u64, how: How, to: &mut Answers) {
+        match &mut self.ticks {
+            Some(ticks) if self.rust.step() != before => {
+                ticks.add(now, how);
+                to.ticked = Some(how);
+            }
+            _ => {}
+        }
+    }
+
+    /// Into a buffer of full stops.
+    fn sheet(&self, (at, len): (u64, usize), to: &mut Answers) {
+        let ticks = self.ticks.as_ref().expect("a start-up");
+        let (mut buf, mut our_buf) = (vec![b'.'; len], vec![b'.'; len]);
+        let written = sheet::put(ticks.sheet(), &mut buf, at);
+        to.refused = written.err();
+        put_written(written, buf, &mut to.rust);
+        let at = usize::try_from(at).expect("64 bits");
+        let ours = self.ours.sheet_into(&mut our_buf, at);
+        put_written(ours.map_err(Refusal::number), our_buf, &mut to.ours);
     }
 
     fn result(&self, to: &mut Answers) {
@@ -128,6 +162,7 @@ impl<R: Theirs + 'static, O: Ours + 'static> Running for Pair<R, O> {
             Call::Feed(feed) => self.feed(feed, to),
             Call::Check { now } => self.check(*now, to),
             Call::Result => self.result(to),
+            Call::Sheet { lent } => self.sheet(lent.unwrap_or((0, MOST_LENT)), to),
             Call::Take => {
                 self.rust.take().put("taken", &mut to.rust);
                 self.ours.take().put("taken", &mut to.ours);
@@ -149,6 +184,11 @@ impl<R: Theirs + 'static, O: Ours + 'static> Running for Pair<R, O> {
             self.last.put("last", &mut to.rust);
         }
         self.ours.put_state(&mut to.ours);
+        if let Some(ticks) = &self.ticks {
+            ticks.stored().put("ticks", &mut to.rust);
+            ticks.sheet().put("sheet", &mut to.rust);
+            self.ours.sheet().put("sheet", &mut to.ours);
+        }
     }
 
     fn view(&self) -> View {
@@ -162,6 +202,7 @@ impl<R: Theirs + 'static, O: Ours + 'static> Running for Pair<R, O> {
             model: self.rust.model(),
             echoes: self.rust.echoes(),
             retries: self.rust.retries(),
+            sheet: self.ticks.as_ref().map(|ticks| ticks.sheet().len()),
         }
     }
 }
@@ -181,6 +222,13 @@ fn put_answer(ours: &Answer, to: &mut Answers) {
         }
         Err(refusal) => refusal.number().put("refused", &mut to.ours),
     }
+}
+
+/// What a sheet answers, and the buffer then.
+fn put_written(written: Result<usize, u8>, buf: Vec<u8>, to: &mut Fields) {
+    written.err().unwrap_or(0).put("refused", to);
+    written.unwrap_or(0).put("wrote", to);
+    buf.put("buffer", to);
 }
 
 /// A `SystemTime` holds 63 bits of seconds. Without the highest of the 64

@@ -21,6 +21,8 @@ pub struct Counts {
     /// How many calls were refused, by number.
     pub refused: BTreeMap<u8, u64>,
     pub complete: u64,
+    /// Entries of a start-up ticked by replies, by nacks and by checks.
+    pub ticked: [u64; 3],
     /// NaNs handed in, compared in answers, and compared in states.
     pub nans: [u64; 3],
 }
@@ -133,6 +135,9 @@ impl Run {
         let counts = &mut self.counts[place(view.which)];
         counts.calls += 1;
         counts.complete += u64::from(complete);
+        if let Some(how) = answers.ticked {
+            counts.ticked[how as usize] += 1;
+        }
         counts.nans[0] += handed_in;
         counts.nans[1] += answered;
         counts.nans[2] += answers.rust.nans - answered;
@@ -175,8 +180,14 @@ impl Counts {
         for (number, count) in &other.refused {
             *self.refused.entry(*number).or_default() += count;
         }
-        for (to, from) in self.nans.iter_mut().zip(other.nans) {
-            *to += from;
+        let sums = [
+            (&mut self.ticked, other.ticked),
+            (&mut self.nans, other.nans),
+        ];
+        for (to, from) in sums {
+            for (to, from) in to.iter_mut().zip(from) {
+                *to += from;
+            }
         }
     }
 }

@@ -51,16 +51,32 @@ pub trait Ours {
         unreachable!("not a call of this sequence")
     }
 
+    fn sheet(&self) -> String {
+        unreachable!("not a call of this sequence")
+    }
+
+    fn sheet_into(&self, _buf: &mut [u8], _at: usize) -> Result<usize, Refusal> {
+        unreachable!("not a call of this sequence")
+    }
+
     fn is_complete(&self) -> bool;
 
     fn put_state(&self, to: &mut Fields);
 }
 
-/// The calls that are the same in each sequence with a result.
-macro_rules! result {
+/// The calls that are the same in each start-up.
+macro_rules! start_up {
     () => {
         fn put_result(&self, to: &mut Fields) -> Result<(), Refusal> {
             self.into_result().map(|sync| sync.put("result", to))
+        }
+
+        fn sheet(&self) -> String {
+            self.sheet()
+        }
+
+        fn sheet_into(&self, buf: &mut [u8], at: usize) -> Result<usize, Refusal> {
+            self.sheet_into(buf, at)
         }
     };
 }
@@ -101,7 +117,7 @@ impl Theirs for rust::DspSequencer {
 
 impl Ours for wigtalom::DspSequencer {
     is_complete!();
-    result!();
+    start_up!();
 
     fn feed(&mut self, env: &Envelope, now: u64, _wall: u64) -> Answer {
         self.feed(env, now)
@@ -118,7 +134,7 @@ impl Ours for wigtalom::DspSequencer {
     fn put_state(&self, to: &mut Fields) {
         let state = self.state();
         put!(to, state: step, status, hw_info, dev_info, prod_info, config, refused);
-        put!(to, state: power_mode_unanswered, deadline, last);
+        put!(to, state: power_mode_unanswered, deadline, last, ticks);
     }
 }
 
@@ -137,7 +153,7 @@ impl Theirs for rust::AvrSequencer {
 
 impl Ours for wigtalom::AvrSequencer {
     is_complete!();
-    result!();
+    start_up!();
 
     fn feed(&mut self, env: &Envelope, now: u64, wall: u64) -> Answer {
         self.feed(env, now, wall)
@@ -150,7 +166,7 @@ impl Ours for wigtalom::AvrSequencer {
     fn put_state(&self, to: &mut Fields) {
         let state = self.state();
         put!(to, state: step, model, status, dev_info, config, factory_cal, if_cal, avr_config);
-        put!(to, state: cal_deadline, repoll_at, last);
+        put!(to, state: cal_deadline, repoll_at, last, ticks);
     }
 }
 
@@ -169,12 +185,12 @@ impl Theirs for rust::PiSequencer {
 
 impl Ours for wigtalom::PiSequencer {
     is_complete!();
-    result!();
+    start_up!();
     feed_without_clock!();
 
     fn put_state(&self, to: &mut Fields) {
         let state = self.state();
-        put!(to, state: step, idx, dev_info, cam_config, ssid, password);
+        put!(to, state: step, idx, dev_info, cam_config, ssid, password, ticks);
     }
 }
 
