@@ -8,7 +8,7 @@ ghost use Rattle.sequence.specs.Events.{plain};
 ghost use Rattle.arm_steps.specs.declared.ArmStep.{ArmStep};
 ghost use Rattle.arm_steps.specs.Answers.{is_armed, send, no_send, moved_at};
 
-use device::search::contains;
+use device::search::find;
 use protocol::{Action, BusAddr, Message};
 use requests::{avr_config_cmd, status_poll};
 
@@ -35,7 +35,7 @@ pub struct ArmMoved {
 fn is_armed(text: &[u8]) -> bool
     ensures { result ≡ is_armed text.now }
 {
-    contains(text, b"ARMED") && !contains(text, b"CANCELLED")
+    find(text, b"ARMED").is_some() && find(text, b"CANCELLED").is_none()
 }
 
 // A send, and the step that it begins.

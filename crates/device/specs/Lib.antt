@@ -1,3 +1,4 @@
-pub mod Search
 pub mod Model
+pub mod Search
 pub mod Sends
+pub mod Tag

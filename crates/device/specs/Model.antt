@@ -1,7 +1,8 @@
 -- The model that a device info names, and what a model has (docs/SCOPE.md, "Model and single sends", and the tables of DSP and AVR). Definitions only.
 -- Assumes nothing.
 use Rattle.std.specs.Prelude.{Bool, true, false, not, cond, ◌&&◌, List, ℕ, Option, Some, None, codes}
-use Rattle.device.specs.Search.{contains}
+use Rattle.std.specs.Option.{option_or}
+use Rattle.device.specs.Search.{contains, first_place}
 use Rattle.protocol.specs.declared.DevInfoResp.{DevInfoResp}
 use Rattle.protocol.specs.Stored.{content}
 use Rattle.device.specs.declared.model.DeviceModel.{DeviceModel}
@@ -34,6 +35,16 @@ model_of payload = cond (contains xi_tag payload) xi (cond (contains rig_tag pay
 abbrev pub model_in : Option DevInfoResp → DeviceModel
 model_in (Some i) = model_of (content i.payload)
 model_in None = mevo
+
+-- ---- the place of the tag that decided it
+
+-- of a Xi's tag, if it stands in the payload; else of the rig's, if that does
+abbrev pub tag_place : List ℕ → Option ℕ
+tag_place payload = option_or (first_place xi_tag payload) (first_place rig_tag payload)
+
+abbrev pub tag_place_in : Option DevInfoResp → Option ℕ
+tag_place_in (Some i) = tag_place (content i.payload)
+tag_place_in None = None
 
 -- ---- what decides
 

@@ -1,33 +1,29 @@
--- What it is for bytes to stand together somewhere. Definitions only.
+-- Where bytes stand together in others. Definitions only.
 -- Assumes nothing.
-use Rattle.std.specs.Prelude.{◌≡◌, Bool, true, false, ◌&&◌, ◌||◌, List, [], ◌∷◌, ℕ, zero, suc, eqb, length, take, drop}
+use Rattle.std.specs.Prelude.{◌≡◌, ℕ, suc, ◌<◌, Bool, true, false, cond, ◌&&◌, List, [], ◌∷◌, eqb, length, take, drop, Option, Some, None, is_some}
+use Rattle.std.specs.Option.{option_map}
 
 -- The needle w stands in s from place i on.
 abbrev pub StandsAt : List ℕ → List ℕ → ℕ → Type 0
 StandsAt w s i = take (length w) (drop i s) ≡ w
 
--- w stands in s: there is a place from which its bytes follow one another. The empty needle stands everywhere.
-abbrev pub Stands : List ℕ → List ℕ → Type 0
-Stands w s = (i : ℕ) × StandsAt w s i
+-- The place of the first occurrence, counted from 0: w stands there, and from no place before. None: it stands nowhere.
+abbrev pub IsFirstPlace : List ℕ → List ℕ → Option ℕ → Type 0
+IsFirstPlace w s None = (i : ℕ) → StandsAt w s i → ⊥
+IsFirstPlace w s (Some i) = StandsAt w s i × ((j : ℕ) → j < i → StandsAt w s j → ⊥)
 
--- ---- the same as a test; proofs/Contains.antt shows that `contains w s ≡ true` exactly where `Stands w s`
+-- ---- the same as functions; proofs/Places.antt shows that `first_place` is the first place
 
--- are these the same bytes?
-abbrev pub same : List ℕ → List ℕ → Bool
-same [] [] = true
-same [] (y ∷ b) = false
-same (x ∷ a) [] = false
-same (x ∷ a) (y ∷ b) = eqb x y && same a b
+-- do the bytes of w stand at the beginning of s?
+abbrev pub begins : List ℕ → List ℕ → Bool
+begins [] s = true
+begins (x ∷ w) [] = false
+begins (x ∷ w) (y ∷ s) = eqb x y && begins w s
 
--- does w stand in s from place i on?
-abbrev pub stands_at : List ℕ → List ℕ → ℕ → Bool
-stands_at w s i = same (take (length w) (drop i s)) w
+abbrev pub first_place : List ℕ → List ℕ → Option ℕ
+first_place w [] = cond (begins w []) (Some 0) None
+first_place w (b ∷ s) = cond (begins w (b ∷ s)) (Some 0) (option_map suc (first_place w s))
 
--- is there a number below n that passes?
-abbrev pub any_below : ℕ → (ℕ → Bool) → Bool
-any_below zero p = false
-any_below (suc n) p = p n || any_below n p
-
--- is there a place of s, its end among them, from which w stands?
+-- does w stand in s, anywhere?
 abbrev pub contains : List ℕ → List ℕ → Bool
-contains w s = any_below (suc (length s)) (stands_at w s)
+contains w s = is_some (first_place w s)

@@ -1,6 +1,7 @@
 // The model of a unit, as its device info names it (src/protocol/handshake.rs).
 ghost use Rattle.std.specs.Prelude.{◌≡◌};
-ghost use Rattle.device.specs.Model.{model_of, model_in, has_camera, has_factory_cal, has_power_mode, is_xi};
+ghost use Rattle.device.specs.Tag.{Theorem};
+ghost use Rattle.device.specs.Model.{model_of, model_in, tag_place, tag_place_in, has_camera, has_factory_cal, has_power_mode, is_xi};
 
 use crate::search;
 use protocol::DevInfoResp;
@@ -46,10 +47,10 @@ impl DeviceModel {
     pub fn from_dev_info(payload: &[u8]) -> DeviceModel
         ensures { result ≡ model_of payload.now }
     {
-        if search::contains(payload, b"FS Xi") {
+        if search::find(payload, b"FS Xi").is_some() {
             return DeviceModel::XI;
         }
-        if search::contains(payload, b"BAY RIG") {
+        if search::find(payload, b"BAY RIG").is_some() {
             return DeviceModel::RIG;
         }
         DeviceModel::MEVO
@@ -62,6 +63,24 @@ impl DeviceModel {
         match info {
             Some(info) => DeviceModel::from_dev_info(info.payload.as_slice()),
             None => DeviceModel::MEVO,
+        }
+    }
+
+    /// The place, counted from 0, of the tag that decides the model of a device-info payload: of the first "FS Xi" on a Xi, of the first
+    /// "BAY RIG" on a rig; none on a Mevo, which has no tag. The Rust has no such call.
+    pub fn tag_place(payload: &[u8]) -> Option<usize>
+        ensures { result ≡ tag_place payload.now }
+    {
+        search::find(payload, b"FS Xi").or(search::find(payload, b"BAY RIG"))
+    }
+
+    /// That of a stored device info; none before there is one.
+    pub fn tag_place_in(info: Option<DevInfoResp>) -> Option<usize>
+        ensures { result ≡ tag_place_in info }
+    {
+        match info {
+            Some(info) => DeviceModel::tag_place(info.payload.as_slice()),
+            None => None,
         }
     }
 
@@ -93,3 +112,8 @@ impl DeviceModel {
         self == DeviceModel::XI
     }
 }
+
+/// The place that is told of a tag is that of the tag which decides the model: of a Xi's on a Xi, of the rig's on a rig; of a Mevo none is.
+pub fn tag_decides()
+    ensures { Theorem }
+{}

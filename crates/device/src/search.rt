@@ -1,12 +1,12 @@
 // Byte search.
-ghost use Rattle.std.specs.Prelude.{◌≡◌, ◌↔◌, IsTrue};
-ghost use Rattle.device.specs.Search.{Stands, contains};
+ghost use Rattle.std.specs.Prelude.{◌≡◌};
+ghost use Rattle.device.specs.Search.{IsFirstPlace, first_place};
 
-// Whether the bytes of `needle` stand together anywhere in `s`. The empty needle stands everywhere, and so this goes by places and not by
-// `windows`, of which an empty needle has none.
-pub fn contains(s: &[u8], needle: &[u8]) -> bool
-    ensures stands { IsTrue result ↔ Stands needle.now s.now }
-    ensures value { result ≡ contains needle.now s.now }
+/// The place, counted from 0, from which the bytes of `needle` first stand together in `s`; none where they stand nowhere. The empty needle
+/// stands at 0, and so this goes by places and not by `windows`, of which an empty needle has none.
+pub fn find(s: &[u8], needle: &[u8]) -> Option<usize>
+    ensures first { IsFirstPlace needle.now s.now result }
+    ensures value { result ≡ first_place needle.now s.now }
 {
-    (0..s.len() + 1).any(|i| s[i..].starts_with(needle))
+    (0..s.len() + 1).position(|i| s[i..].starts_with(needle))
 }
