@@ -7,7 +7,7 @@ use Rattle.protocol.specs.declared.Refusal.{Refusal}
 use Rattle.protocol.specs.Carried.{no_dev_info, no_config}
 use Rattle.protocol.specs.Refusals.{outcome, lowest}
 use Rattle.device.specs.declared.model.DeviceModel.{DeviceModel}
-use Rattle.device.specs.Model.{model_in}
+use Rattle.device.specs.Model.{model_in, tag_place_in}
 use Rattle.requests.specs.Requests.{status_poll}
 use Rattle.sequence.specs.Accepted.{feed_outcome, check_outcome, result_refusals}
 use Rattle.sequence.specs.Events.{Envelope, Event, fed, checked}
@@ -61,6 +61,7 @@ sync_of y = record {
   prod_info = y.prod_info;
   config = unwrap_or y.config no_config;
   model = model_in y.dev_info;
+  tag_place = tag_place_in y.dev_info;
   power_mode_unanswered = y.power_mode_unanswered;
 }
 

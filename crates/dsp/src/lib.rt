@@ -39,6 +39,8 @@ pub struct DspSync {
     pub config: ConfigResp,
     // named by the device info
     pub model: DeviceModel,
+    // in the device info's payload, counted from 0, of the tag that decided the model; none on a Mevo
+    pub tag_place: Option<usize>,
     pub power_mode_unanswered: bool,
 }
 
@@ -63,6 +65,7 @@ impl From<DspReplies> for DspSync {
             prod_info,
             config: replies.config.unwrap_or(ConfigResp::none()),
             model: DeviceModel::from_stored(replies.dev_info),
+            tag_place: DeviceModel::tag_place_in(replies.dev_info),
             power_mode_unanswered: replies.power_mode_unanswered,
         }
     }

@@ -163,8 +163,10 @@ pub xi_result : finished (state xi_taken)
       prod_info = record { text = stored (65 ∷ []) } ∷ record { text = stored (66 ∷ []) } ∷ record { text = stored (67 ∷ []) } ∷ [];
       config = record { params = ℤ.pos 5 ∷ [] };
       model = models.xi;
+      tag_place = Some 0;
       power_mode_unanswered = false;
     })
+unfolding stored
 xi_result = xi.asked.from xi_taken _ refl xi_end_lem (places models.xi xi_day) (earliest models.xi xi_day xi_ticked_off)
 
 -- ---- a Mevo: the query is not answered; a check ticks it 2 s after the status, and an earlier one doesn't
@@ -209,10 +211,17 @@ mevo_model =
     ap (λ (f : Result DspSync Refusal). option_map (λ (y : DspSync). y.model) (result_ok f))
     (mevo.asked.from (mevo_end ++ ask take_refused ∷ []) _ refl mevo_end_lem (places models.mevo mevo_day) (earliest models.mevo mevo_day mevo_ticked_off))
 
+-- a Mevo has no tag
+pub mevo_place : option_map (λ (y : DspSync). y.tag_place) (result_ok (finished (state (mevo_end ++ ask take_refused ∷ [])))) ≡ Some None
+unfolding stored
+mevo_place =
+    ap (λ (f : Result DspSync Refusal). option_map (λ (y : DspSync). y.tag_place) (result_ok f))
+    (mevo.asked.from (mevo_end ++ ask take_refused ∷ []) _ refl mevo_end_lem (places models.mevo mevo_day) (earliest models.mevo mevo_day mevo_ticked_off))
+
 -- ---- the practice rig: done with the seventh entry, as a Mevo is; a power mode is not waited for
 
 abbrev rig_payload : List ℕ
-rig_payload = codes "BAY RIG"
+rig_payload = codes "A BAY RIG"
 
 abbrev rig_info : List DspCall
 rig_info = status 5 ∷ check 2_000_000_005 ∷ dev_info rig_payload 2_000_000_006 ∷ []
@@ -258,6 +267,12 @@ rig_taken =
     rig.took.from (rig_end ++ ask into_result ∷ nack 0x3F 2_000_000_009 ∷ []) _ refl
     (places models.rig (rig_end ++ ask into_result ∷ nack 0x3F 2_000_000_009 ∷ []), leftmost_matching {r = run (rig_end ++ ask into_result ∷ nack 0x3F 2_000_000_009 ∷ [])} refl)
     (places models.rig rig_day) (earliest models.rig rig_day rig_ticked_off)
+
+pub rig_place : option_map (λ (y : DspSync). y.tag_place) (result_ok (finished (state rig_end))) ≡ Some (Some 2)
+unfolding stored
+rig_place =
+    ap (λ (f : Result DspSync Refusal). option_map (λ (y : DspSync). y.tag_place) (result_ok f))
+    (rig.asked.from rig_end _ refl rig_end_lem (places models.rig rig_day) (earliest models.rig rig_day rig_ticked_off))
 
 pub rig_model : option_map (λ (y : DspSync). y.model) (result_ok (finished (state rig_end))) ≡ Some models.rig
 rig_model =

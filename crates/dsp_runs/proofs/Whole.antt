@@ -15,7 +15,7 @@ use Rattle.protocol.specs.declared.Refusal.TheVariants.{NotDone}
 use Rattle.protocol.specs.Carried.{no_dev_info, no_config}
 use Rattle.protocol.specs.Refusals.{outcome, lowest}
 use Rattle.device.specs.declared.model.DeviceModel.{DeviceModel}
-use Rattle.device.specs.Model.{has_power_mode}
+use Rattle.device.specs.Model.{tag_place_in, has_power_mode}
 use Rattle.matching.specs.Promise.{Each, after_all, Keeps}
 use Rattle.matching.proofs.Machine.{Antitone, ticks as ticksIn, ticked_from}
 use Rattle.matching.proofs.Embeds.{length-snoc}
@@ -58,6 +58,7 @@ finished_for m s =
       prod_info = y.prod_info;
       config = unwrap_or y.config no_config;
       model = m;
+      tag_place = tag_place_in y.dev_info;
       power_mode_unanswered = y.power_mode_unanswered;
     }))
     (λ r. Err r)

@@ -7,7 +7,7 @@ use Rattle.protocol.specs.declared.Refusal.TheVariants.{NotDone}
 use Rattle.protocol.specs.Carried.{no_dev_info, no_config}
 use Rattle.protocol.specs.Kinds.{dev_info_resp}
 use Rattle.device.specs.declared.model.DeviceModel.{DeviceModel}
-use Rattle.device.specs.Model.{model_of, has_power_mode}
+use Rattle.device.specs.Model.{model_of, tag_place_in, has_power_mode}
 use Rattle.matching.specs.Matching.{Table}
 use Rattle.matching.specs.Promise.{Each, Ends, Answers, Keeps, AnswersSoFar, First, run, tick}
 use Rattle.sequence.specs.Events.{Envelope, Event, fed, checked, reading}
@@ -35,6 +35,7 @@ result_of m at = record {
   prod_info = prod_info_in (at 4) ∷ prod_info_in (at 5) ∷ prod_info_in (at 6) ∷ [];
   config = unwrap_or (config_in (λ v. v) (at 7)) no_config;
   model = m;
+  tag_place = tag_place_in (dev_info_in (λ v. v) (at 3));
   power_mode_unanswered = has_power_mode m && unanswered_in (at 8) false;
 }
 

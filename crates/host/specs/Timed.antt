@@ -1,6 +1,6 @@
 -- What a host's calls of the sequences with a clock answer, as Untimed has it for the others. Definitions only.
 -- Assumes nothing.
-use Rattle.std.specs.Prelude.{ℕ, List, None, Result, Ok, Err}
+use Rattle.std.specs.Prelude.{ℕ, true, false, List, Option, Some, None, Result, Ok, Err}
 use Rattle.protocol.specs.declared.Refusal.{Refusal}
 use Rattle.protocol.specs.Refusals.{number}
 use Rattle.device.specs.declared.model.DeviceModel.{DeviceModel}
@@ -16,6 +16,7 @@ use Rattle.abi_avr.specs.declared.CAvr.{CAvr}
 use Rattle.abi_dsp.specs.State.{nack_out, hw_info_out, dsp_in, dsp_out}
 use Rattle.abi_avr.specs.State.{factory_cal_out, if_cal_out, avr_config_out, avr_in, avr_out}
 use Rattle.host.specs.declared.c_dsp.CDspFed.{CDspFed}
+use Rattle.host.specs.declared.c_dsp.COptionPlace.{COptionPlace}
 use Rattle.host.specs.declared.c_dsp.CDspSync.{CDspSync}
 use Rattle.host.specs.declared.c_dsp.CDspFinished.{CDspFinished}
 use Rattle.host.specs.declared.c_dsp.CDspTaken.{CDspTaken}
@@ -41,6 +42,11 @@ dsp_feed c e text payload t =
 abbrev pub dsp_check : CDsp → ℕ → CDspFed
 dsp_check c t = dsp_fed (known (dsp_in c) (λ s. answered dsp_out (dsp.polled s t) c) (declined c))
 
+-- of a tag; beside an absent one stands 0
+abbrev pub place_out : Option ℕ → COptionPlace
+place_out (Some i) = record { some = true; value = i }
+place_out None = record { some = false; value = 0 }
+
 abbrev pub dsp_sync : DspSync → CDspSync
 dsp_sync s = record {
   status = dsp_status_out s.status;
@@ -50,6 +56,7 @@ dsp_sync s = record {
   prod_info = s.prod_info;
   config = s.config;
   model = s.model;
+  tag_place = place_out s.tag_place;
   power_mode_unanswered = s.power_mode_unanswered;
 }
 

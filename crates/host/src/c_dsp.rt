@@ -1,7 +1,7 @@
 // The DSP start-up. C calls no function and takes no record with a type parameter, so what is alike in the
 // files of other sequences stands here again.
 ghost use Rattle.std.specs.Prelude.{◌≡◌};
-ghost use Rattle.host.specs.Timed.{dsp_fed, dsp_feed, dsp_check, dsp_sync, no_dsp_result, dsp_finished, dsp_result, dsp_take, dsp_new};
+ghost use Rattle.host.specs.Timed.{dsp_fed, dsp_feed, dsp_check, place_out, dsp_sync, no_dsp_result, dsp_finished, dsp_result, dsp_take, dsp_new};
 ghost use Rattle.host.specs.Sheets.{dsp_sheet, dsp_sheet_buffer};
 
 use crate::UNKNOWN;
@@ -22,6 +22,14 @@ pub struct CDspFed {
     pub seq: CDsp,
 }
 
+// C takes no `Option`. A result alone has it, and so it never comes in.
+#[repr(C)]
+#[derive(Clone, Copy)]
+pub struct COptionPlace {
+    pub some: bool,
+    pub value: usize,
+}
+
 #[repr(C)]
 #[derive(Clone, Copy)]
 pub struct CDspSync {
@@ -32,6 +40,7 @@ pub struct CDspSync {
     pub prod_info: [ProdInfoResp; 3],
     pub config: ConfigResp,
     pub model: DeviceModel,
+    pub tag_place: COptionPlace,
     pub power_mode_unanswered: bool,
 }
 
@@ -63,6 +72,17 @@ impl From<Fed<CDsp>> for CDspFed {
     }
 }
 
+impl From<Option<usize>> for COptionPlace {
+    ghost from_gives = { λ place r. r ≡ place_out place };
+
+    fn from(place: Option<usize>) -> COptionPlace {
+        COptionPlace {
+            some: place.is_some(),
+            value: place.unwrap_or(0),
+        }
+    }
+}
+
 impl From<DspSync> for CDspSync {
     ghost from_gives = { λ sync r. r ≡ dsp_sync sync };
 
@@ -77,6 +97,7 @@ impl From<DspSync> for CDspSync {
             prod_info,
             config: sync.config,
             model: sync.model,
+            tag_place: sync.tag_place.into(),
             power_mode_unanswered: sync.power_mode_unanswered,
         }
     }
