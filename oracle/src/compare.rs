@@ -39,12 +39,14 @@ pub struct List {
 impl Source {
     pub fn new(seed: u64, leaning: Leaning, with_bad_lines: bool) -> Self {
         let mut bad_lines = with_bad_lines.then(|| BadLines::new(seed, leaning.which));
-        Source {
+        let mut source = Source {
             generator: Generator::new(seed, leaning),
             written: bad_lines.as_mut().map(BadLines::all).unwrap_or_default(),
             bad_lines,
             coverage: Coverage::default(),
-        }
+        };
+        source.coverage.rigs = leaning.rigs;
+        source
     }
 
     /// For so many calls: with a long arm, if they are enough.

@@ -63,6 +63,10 @@ impl Sequencer for DspSequencer {
         write::params(out, Some(&sync.config));
         let model = Model::of_payload(&sync.dev_info.payload);
         write::word(out, "model", &model.spelled());
+        match Model::tag_place(&sync.dev_info.payload) {
+            Some(place) => write::number(out, "tag_place", place as u64),
+            None => write::none(out, "tag_place"),
+        }
         let unanswered = sync.power_mode_unanswered;
         write::boolean(out, "power_mode_unanswered", unanswered);
     }

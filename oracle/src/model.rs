@@ -1,6 +1,7 @@
 //! The model of a unit as three facts, which the Rust hasn't: it knows a Mevo
 //! and a Xi. Written from docs/SCOPE.md, "Model and single sends"; each call
-//! goes through the Rust by the one fact that it reads.
+//! goes through the Rust by the one fact that it reads. Where the tag stands
+//! that decides a model the Rust doesn't say either.
 
 use crate::protocol::handshake::{DevInfoResp, DeviceModel};
 
@@ -70,7 +71,7 @@ impl Model {
 
     /// The one that a device-info payload names.
     pub fn of_payload(payload: &[u8]) -> Model {
-        let model = match (has(payload, b"FS Xi"), has(payload, RIG_TAG)) {
+        let model = match (has(payload, XI_TAG), has(payload, RIG_TAG)) {
             (true, _) => Model::XI,
             (false, true) => Model::RIG,
             (false, false) => Model::MEVO,
@@ -80,6 +81,22 @@ impl Model {
             assert_eq!(model.rust(), Some(named_by_the_rust(payload)));
         }
         model
+    }
+
+    /// Where the tag stands in a device-info payload that decides its model,
+    /// from 0: the first of a Xi's, else the first of a rig's.
+    pub fn tag_place(payload: &[u8]) -> Option<usize> {
+        let place = first(payload, XI_TAG).or_else(|| first(payload, RIG_TAG));
+        let tag = match Model::of_payload(payload) {
+            Model::XI => Some(XI_TAG),
+            Model::RIG => Some(RIG_TAG),
+            _ => None,
+        };
+        match (place, tag) {
+            (Some(at), Some(tag)) => assert!(payload[at..].starts_with(tag)),
+            (place, tag) => assert!(place.is_none() && tag.is_none()),
+        }
+        place
     }
 
     /// The Rust's model of these facts, if it has one.
@@ -107,11 +124,17 @@ impl Model {
     }
 }
 
+/// What names a Xi.
+pub const XI_TAG: &[u8] = b"FS Xi";
 /// What names a rig.
 pub const RIG_TAG: &[u8] = b"BAY RIG";
 
 pub fn has(payload: &[u8], tag: &[u8]) -> bool {
     payload.windows(tag.len()).any(|bytes| bytes == tag)
+}
+
+fn first(payload: &[u8], tag: &[u8]) -> Option<usize> {
+    (0..payload.len()).find(|at| payload[*at..].starts_with(tag))
 }
 
 fn named_by_the_rust(payload: &[u8]) -> DeviceModel {

@@ -20,7 +20,7 @@ const VALUE: usize = 30;
 const BYTES_IN_ROW: usize = 16;
 
 /// The fields that stand in no record.
-const OUTER: [&str; 23] = [
+const OUTER: [&str; 24] = [
     "last",
     "status",
     "hw_info",
@@ -28,6 +28,7 @@ const OUTER: [&str; 23] = [
     "prod_info",
     "params",
     "model",
+    "tag_place",
     "power_mode_unanswered",
     "deadline",
     "refused",
@@ -46,6 +47,8 @@ const OUTER: [&str; 23] = [
     "ticks",
 ];
 const READINGS: [&str; 4] = ["last", "deadline", "cal_deadline", "repoll_at"];
+/// The models that have a tag.
+const TAGS: [(&str, &str); 2] = [("model=Xi", "FS Xi"), ("model=Rig", "BAY RIG")];
 
 /// A list that is shown, between two lines.
 pub struct Show {
@@ -300,7 +303,7 @@ fn sheet(out: &mut Vec<u8>, word: &str) {
 // ---- fields
 
 /// The words of each part of an answer.
-fn parts(answer: &str) -> Vec<Vec<&str>> {
+pub fn parts(answer: &str) -> Vec<Vec<&str>> {
     let (mut parts, mut rest) = (vec![Vec::new()], answer);
     while !rest.is_empty() {
         let (word, behind) = rest.split_at(word_len(rest));
@@ -341,12 +344,20 @@ fn fields(out: &mut Vec<u8>, words: &[&str]) {
         } else if name == "prod_info" {
             field(out, FIELD, &format!("{name} {infos}"), value);
             infos += 1;
+        } else if name == "tag_place" && value != "none" {
+            field(out, FIELD, name, &format!("{value}  \"{}\"", tag(words)));
         } else if OUTER.contains(&name) {
             field(out, FIELD, name, value);
         } else {
             field(out, INNER, name, value);
         }
     }
+}
+
+/// The tag of the model among the words.
+fn tag(words: &[&str]) -> &'static str {
+    let found = TAGS.iter().find(|(model, _)| words.contains(model));
+    found.expect("a model with a tag").1
 }
 
 fn field(out: &mut Vec<u8>, indent: usize, name: &str, value: &str) {

@@ -5,7 +5,7 @@ use std::cell::Cell;
 use oracle::broken::{self, Broken};
 use oracle::compare::{LIST_LINES, LONG_ARM_CALLS, List, Source, front_answers, shrink};
 use oracle::coverage::Coverage;
-use oracle::generate::{LEANINGS, LONG_ARM, Leaning, Random, device_info};
+use oracle::generate::{LEANINGS, LONG_ARM, Leaning, RIGS, Random, device_info};
 use oracle::list::{self, Begin, Call, Which};
 use oracle::model::{Model, has};
 use oracle::protocol::handshake::DeviceModel;
@@ -38,7 +38,8 @@ fn default_lists_are_comparable() {
 fn everything_is_met() {
     for which in Which::ALL {
         let mut all = Coverage::default();
-        for leaning in LEANINGS.into_iter().filter(|l| l.which == which) {
+        let leanings = LEANINGS.into_iter().chain([RIGS]);
+        for leaning in leanings.filter(|l| l.which == which) {
             let mut source = Source::new(5, leaning, true);
             source.list(usize::MAX, 10_000);
             all.add(&source.coverage);
@@ -192,6 +193,40 @@ fn no_list_has_a_rig() {
         assert!(holding(near) > 100, "{near:?} {}", holding(near));
     }
     assert!(given[0] > 1_000 && given[1] > 1_000, "{given:?}");
+}
+
+/// But for the lists that are made for it: of results with each tag, both and
+/// none. They have the DSP alone, and no other list asks for them.
+#[test]
+fn lists_of_rigs() {
+    let list = Source::new(2, RIGS, false).list(usize::MAX, 10_000);
+    let (payloads, models) = payloads_and_models(&list);
+    assert!(models.iter().all(|m| [Model::MEVO, Model::XI].contains(m)));
+    let with = |tags: &[&[u8]]| {
+        let has_all = |payload: &&Vec<u8>| tags.iter().all(|tag| has(payload, tag));
+        payloads.iter().filter(has_all).count()
+    };
+    let (rigs, both) = (with(&[b"BAY RIG"]), with(&[b"BAY RIG", b"FS Xi"]));
+    assert!(both > 100 && rigs > both + 100, "{rigs} {both}");
+    let results = |model: &str, place: &str| {
+        let end = format!(" model={model} tag_place={place}");
+        let lines = list.answers.lines();
+        lines.filter(|line| line.contains(&end)).count()
+    };
+    assert!(results("Rig", "") > 20 && results("Xi", "") > 20);
+    assert!(results("Mevo", "none") > 5 && results("Mevo", "") == results("Mevo", "none"));
+    assert_eq!(results("Rig", "none") + results("Xi", "none"), 0);
+    let begun = list.lines.iter().filter(|line| line.trim() == "dsp");
+    assert!(begun.count() > 100 && !list.lines.iter().any(|line| line.contains(" wall=")));
+    let mut source = Source::new(2, LEANINGS[0], false);
+    source.list(usize::MAX, 10_000);
+    assert!(
+        !source
+            .coverage
+            .missing(&[Which::Dsp])
+            .concat()
+            .contains("BAY RIG")
+    );
 }
 
 /// Of many device infos, too, where what stands behind a near tag may end it.

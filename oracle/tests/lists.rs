@@ -49,7 +49,7 @@ fn unanswered_result() -> String {
     format!(
         "14: accepted; status=V46 state=1 version=0x46 payload=460100|F..| hw_info=none \
         dev_info=text=C3A9|..| payload=302E333820465320586900|0.38 FS Xi.| prod_info=41|A| prod_info=|| \
-        prod_info=43|C| params={PARAMS} model=Xi power_mode_unanswered=true"
+        prod_info=43|C| params={PARAMS} model=Xi tag_place=5 power_mode_unanswered=true"
     )
 }
 
@@ -63,7 +63,7 @@ fn mevo_with_every_reply() {
     let result = format!(
         "11: accepted; status={status} hw_info=version=0x02 dsp_type=0xC0 pcb=14 dev_info=text=|| \
         payload=46532058|FS X| prod_info=|| prod_info=|| prod_info=|| params={PARAMS} \
-        model=Mevo power_mode_unanswered=false"
+        model=Mevo tag_place=none power_mode_unanswered=false"
     );
     check(
         &[

@@ -4,7 +4,7 @@
 
 mod common;
 
-use common::{MODELS, answers, check_pairs, message, repository};
+use common::{MODELS, answers, check_pairs, dsp_result, message, repository};
 
 const SECOND: u64 = 1_000_000_000;
 
@@ -207,21 +207,22 @@ fn avrs() {
 }
 
 /// A DSP goes by the model that the device info of entry 3 names, and its
-/// result says which. Another device info, before or later, changes nothing.
+/// result says which, and where its tag stands. Another device info, before or
+/// later, changes nothing.
 #[test]
 fn dsps() {
-    for (payload, model, power_mode) in [
-        ("BAY RIG", "Rig", false),
-        ("BAY RIG, FS Xi", "Xi", true),
-        ("FS Xi, BAY RIG", "Xi", true),
-        ("BAY RI", "Mevo", false),
-        ("FS X", "Mevo", false),
-        ("FS Xi", "Xi", true),
+    for (payload, model, power_mode, place) in [
+        ("BAY RIG", "Rig", false, "0"),
+        ("BAY RIG, FS Xi", "Xi", true, "9"),
+        ("FS Xi, BAY RIG", "Xi", true, "0"),
+        ("BAY RI", "Mevo", false, "none"),
+        ("FS X", "Mevo", false, "none"),
+        ("FS Xi", "Xi", true, "0"),
     ] {
         let info = |payload| format!("feed 0 Dsp 0xE7 DevInfoResp payload=\"{payload}\"\n");
         let fed = |named| message(named, "Mevo", 0) + "\n";
         let infos = fed("ProdInfoResp from Dsp").repeat(3);
-        let (other, config) = (info("FS Xi BAY RIG"), fed("ConfigResp from Dsp"));
+        let (other, config) = (info("BAY RIG .. FS Xi"), fed("ConfigResp from Dsp"));
         let list = [
             "dsp\n".to_string(),
             other.clone(),
@@ -245,8 +246,57 @@ fn dsps() {
         };
         assert_eq!(answers[9..11], expected, "{payload}");
         let result = answers.last().unwrap();
-        let end = format!(" model={model} power_mode_unanswered=false");
+        let end = format!(" model={model} tag_place={place} power_mode_unanswered=false");
         assert!(result.ends_with(&end), "{payload}: {result}");
+    }
+}
+
+/// Where the tag stands that decides the model, from 0: the first "FS Xi" of
+/// a Xi, also behind a rig's tag, the first "BAY RIG" of a rig. A Mevo has
+/// none, and the text isn't looked at.
+#[test]
+fn places_of_tags() {
+    let at_the_end = |tag: &str| format!("payload=\"{}{tag}\"", "b".repeat(256 - tag.len()));
+    for (info, model, place) in [
+        // twice: the first
+        ("payload=\"FS XiFS Xi\"", "Xi", "0"),
+        ("payload=\"aFS Xi FS Xi\"", "Xi", "1"),
+        ("payload=\"BAY RIGBAY RIG\"", "Rig", "0"),
+        ("payload=\"..BAY RIG BAY RIG\"", "Rig", "2"),
+        // both: the Xi's, whichever stands first
+        ("payload=\"BAY RIGFS Xi\"", "Xi", "7"),
+        ("payload=\"BAY RIG BAY RIG FS Xi FS Xi\"", "Xi", "16"),
+        ("payload=\"aFS Xi BAY RIG FS Xi\"", "Xi", "1"),
+        // cut short before it
+        ("payload=\"FS XFS Xi\"", "Xi", "4"),
+        ("payload=\"FS FSFS XiFS X\"", "Xi", "5"),
+        ("payload=\"BAY RIBAY RIG\"", "Rig", "6"),
+        ("payload=\"FS X BAY RIG FS X\"", "Rig", "5"),
+        ("payload=\"FS BAY RIG Xi\"", "Rig", "3"),
+        // any bytes before it
+        ("payload=004653205869", "Xi", "1"),
+        ("payload=FFFF0A4241592052494700", "Rig", "3"),
+        // of a Mevo none, whatever it almost has
+        ("", "Mevo", "none"),
+        ("payload=46532058", "Mevo", "none"),
+        ("payload=53205869", "Mevo", "none"),
+        ("payload=\"BAY RI\"", "Mevo", "none"),
+        ("payload=\"FS XBAY RIi\"", "Mevo", "none"),
+        ("payload=\"FS xi BAYRIG bay rig\"", "Mevo", "none"),
+        // the text isn't looked at
+        ("text=\"FS Xi\"", "Mevo", "none"),
+        ("text=\"BAY RIG\" payload=\"FS X\"", "Mevo", "none"),
+        ("text=\"FS Xi\" payload=\"..BAY RIG\"", "Rig", "2"),
+        ("text=\"FS Xi\" payload=\"...FS Xi\"", "Xi", "3"),
+        // the last place that it can have
+        (&at_the_end("FS Xi"), "Xi", "251"),
+        (&at_the_end("BAY RIG"), "Rig", "249"),
+        (&at_the_end("FS X"), "Mevo", "none"),
+    ] {
+        let answers = bare(&dsp_result(info));
+        let end = format!(" model={model} tag_place={place} power_mode_unanswered=false");
+        let result = answers.last().unwrap();
+        assert!(result.ends_with(&end), "{info}: {result}");
     }
 }
 

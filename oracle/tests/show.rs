@@ -5,7 +5,7 @@ mod common;
 
 use std::fs;
 
-use common::{PARAMS, answers, message};
+use common::{PARAMS, answers, dsp_result, message};
 use oracle::compare::Source;
 use oracle::generate::LEANINGS;
 use oracle::list::Which;
@@ -235,6 +235,7 @@ fn fields_of_a_result_and_a_state() {
       params                  1,-2,3,4,5,6,7,8,9,10,11,12,13,14,15,16,17,18,19,20,21,22,23,24,25,26,
                               27,28,29,30,31,32,32767,-32768
       model                   Xi
+      tag_place               0  \"FS Xi\"
       power_mode_unanswered   false
     state
       last                    9000000000  9.000000000 s
@@ -252,6 +253,37 @@ fn fields_of_a_result_and_a_state() {
       power_mode_unanswered   false
 ";
     assert!(lines.contains(refused), "{lines}");
+}
+
+/// Behind the place of a tag stands the tag. A Mevo has none.
+#[test]
+fn places_of_tags() {
+    for (info, model, place) in [
+        ("payload=\"..FS XiFS Xi\"", "Xi", "2  \"FS Xi\""),
+        ("payload=\"BAY RIG FS Xi\"", "Xi", "8  \"FS Xi\""),
+        ("payload=\"unit BAY RIG\"", "Rig", "5  \"BAY RIG\""),
+        ("payload=\"FS X\"", "Mevo", "none"),
+        // no word of the text is a field
+        (
+            "text=\" model=Rig \" payload=\"FS Xi model=Mevo\"",
+            "Xi",
+            "0  \"FS Xi\"",
+        ),
+        ("text=\" model=Xi tag_place=7 \"", "Mevo", "none"),
+    ] {
+        let lines = shown(&dsp_result(info), true);
+        let expected = format!(
+            "
+      model                   {model}
+      tag_place               {place}
+      power_mode_unanswered   false
+    state
+"
+        );
+        assert_eq!(lines.matches(&expected).count(), 1, "{info}\n{lines}");
+        // it is no field of a state
+        assert_eq!(lines.matches("\n      tag_place ").count(), 1);
+    }
 }
 
 /// The lines of a sheet, as they would be printed: behind 6 blanks, without

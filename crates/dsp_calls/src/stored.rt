@@ -25,6 +25,10 @@ fn status<W: Write>(out: &mut W, reply: &DspStatusReply) -> io::Result<()> {
     records::status(out, &reply.status, &reply.payload)
 }
 
+fn place<W: Write>(out: &mut W, place: &usize) -> io::Result<()> {
+    write!(out, " tag_place={place}")
+}
+
 pub fn sync<W: Write>(out: &mut W, s: &DspSync) -> io::Result<()> {
     write!(out, ";")?;
     records::status(out, &s.status, &s.status_payload)?;
@@ -32,12 +36,9 @@ pub fn sync<W: Write>(out: &mut W, s: &DspSync) -> io::Result<()> {
     records::dev_info(out, &s.dev_info)?;
     records::prod_info(out, &s.prod_info)?;
     records::config(out, &s.config)?;
-    write!(
-        out,
-        " model={} power_mode_unanswered={}",
-        Model(s.model),
-        s.power_mode_unanswered
-    )
+    write!(out, " model={}", Model(s.model))?;
+    fields::optional(out, "tag_place", &s.tag_place, place)?;
+    write!(out, " power_mode_unanswered={}", s.power_mode_unanswered)
 }
 
 fn replies<W: Write>(out: &mut W, r: &DspReplies) -> io::Result<()> {

@@ -10,6 +10,8 @@ enum Kind {
     // a reading of the clock, where it is there
     Reading,
     ProdInfo,
+    // in the payload of the device info, where there is one
+    TagPlace,
     // another that belongs to no record
     Outer,
     // one of the last record before it
@@ -21,12 +23,22 @@ impl Kind {
         match name {
             b"last" | b"deadline" | b"cal_deadline" | b"repoll_at" => Kind::Reading,
             b"prod_info" => Kind::ProdInfo,
+            b"tag_place" => Kind::TagPlace,
             b"status" | b"hw_info" | b"dev_info" | b"params" | b"model" | b"mode" => Kind::Outer,
             b"power_mode_unanswered" | b"refused" | b"retries" | b"wait_pi" => Kind::Outer,
             b"factory_cal" | b"if_cal" | b"avr_config" | b"radar_cal" => Kind::Outer,
             b"cam_config" | b"ssid" | b"password" | b"ticks" => Kind::Outer,
             _ => Kind::Inner,
         }
+    }
+}
+
+// The tag that names a model. A Mevo has none.
+fn tag_of(model: &[u8]) -> Option<&'static str> {
+    match model {
+        b"Xi" => Some("FS Xi"),
+        b"Rig" => Some("BAY RIG"),
+        _ => None,
     }
 }
 
@@ -98,14 +110,34 @@ fn value<W: Write>(out: &mut W, name: &[u8], value: &[u8], column: usize) -> io:
     }
 }
 
-// A field: its name, at least two blanks, and its value, in the column of the values where it can be.
-fn field<W: Write>(out: &mut W, indent: usize, name: &[u8], given: &[u8]) -> io::Result<()> {
+// The name of a field and at least two blanks, up to the column of the values where it can be. Gives the column that comes next.
+fn head<W: Write>(out: &mut W, indent: usize, name: &[u8]) -> io::Result<usize> {
     fold::blanks(out, indent)?;
     out.write_all(name)?;
     let end = indent.saturating_add(name.len());
     let column = end.saturating_add(2).max(VALUE);
     fold::blanks(out, column - end)?;
+    Ok(column)
+}
+
+fn field<W: Write>(out: &mut W, indent: usize, name: &[u8], given: &[u8]) -> io::Result<()> {
+    let column = head(out, indent, name)?;
     value(out, name, given, column)
+}
+
+// The place of a tag, and behind it the tag.
+fn tag_place<W: Write>(
+    out: &mut W,
+    name: &[u8],
+    place: &[u8],
+    tag: Option<&str>,
+) -> io::Result<()> {
+    head(out, FIELD, name)?;
+    out.write_all(place)?;
+    match tag {
+        Some(tag) => writeln!(out, "  \"{tag}\""),
+        None => writeln!(out),
+    }
 }
 
 // The name of a record, on a line of its own.
@@ -130,15 +162,21 @@ fn word<W: Write>(out: &mut W, name: &[u8], given: &[u8]) -> io::Result<()> {
     field(out, indent, name, given)
 }
 
-// The words of a result or a state. The product infos are counted from 0, as the steps are that wait for them.
+// The words of a result or a state. The product infos are counted from 0, as the steps are that wait for them. The model stands before the place of
+// its tag.
 pub fn words<W: Write>(out: &mut W, s: &[u8]) -> io::Result<()> {
     let mut prod_infos = PROD_INFOS.iter();
+    let mut tag = None;
     let mut texts = Texts::new();
     for next in s.split(|b| texts.outside(*b) && *b == b' ') {
         let (name, given) = split_once(next, b'=').unwrap_or((next, b""));
         match Kind::of(name) {
             Kind::ProdInfo => field(out, FIELD, prod_infos.next().unwrap_or(&name), given)?,
+            Kind::TagPlace => tag_place(out, name, given, tag)?,
             _ => word(out, name, given)?,
+        }
+        if name == b"model".as_slice() {
+            tag = tag_of(given);
         }
     }
     Ok(())

@@ -1,6 +1,6 @@
 //! compare N [SEED] --replay PATH [--only SEQUENCE] [--bad] [--show]: runs N
-//! calls of each sequence and model through the Rust and through the program
-//! at PATH; with --show both show the lists to people.
+//! calls of each sequence and model, and N of a DSP with rigs, through the Rust
+//! and through the program at PATH; with --show both show the lists to people.
 
 use std::io;
 use std::process::ExitCode;
@@ -8,7 +8,7 @@ use std::time::{SystemTime, UNIX_EPOCH};
 
 use oracle::compare::{Difference, LIST_LINES, LONG_ARM_CALLS, Program, Source};
 use oracle::coverage::Coverage;
-use oracle::generate::{LEANINGS, Leaning};
+use oracle::generate::{LEANINGS, Leaning, RIGS};
 use oracle::list::Which;
 
 const USAGE: &str = "usage: compare N [SEED] --replay PATH [--only SEQUENCE] [--bad] [--show]
@@ -37,7 +37,7 @@ fn main() -> ExitCode {
     println!("seed {}", task.seed);
     let mut coverage = Coverage::default();
     let asked = |leaning: &Leaning| task.of.contains(&leaning.which);
-    for leaning in LEANINGS.into_iter().filter(asked) {
+    for leaning in LEANINGS.into_iter().chain([RIGS]).filter(asked) {
         match compare(&task, leaning) {
             Ok(Ok(counted)) => coverage.add(&counted),
             Ok(Err((list, difference))) => return differs(&list, &difference),

@@ -1,5 +1,5 @@
-//! generate N [SEED] [--only SEQUENCE] [--mevo] [--bad]: writes a list of N
-//! calls, of a DSP if nothing else is said.
+//! generate N [SEED] [--only SEQUENCE] [--mevo] [--rigs] [--bad]: writes a
+//! list of N calls, of a DSP if nothing else is said.
 
 use std::io::{self, Write};
 use std::process::ExitCode;
@@ -9,7 +9,7 @@ use oracle::generate::Leaning;
 use oracle::list::Which;
 use oracle::protocol::handshake::DeviceModel;
 
-const USAGE: &str = "usage: generate N [SEED] [--only SEQUENCE] [--mevo] [--bad]
+const USAGE: &str = "usage: generate N [SEED] [--only SEQUENCE] [--mevo] [--rigs] [--bad]
 SEQUENCE: dsp, avr, pi, avr_config, disarm or arm";
 
 struct Task {
@@ -36,13 +36,14 @@ fn main() -> ExitCode {
 }
 
 fn task() -> Option<Task> {
-    let (mut which, mut mevo, mut bad) = (Which::Dsp, false, false);
+    let (mut which, mut mevo, mut rigs, mut bad) = (Which::Dsp, false, false, false);
     let mut numbers: Vec<u64> = Vec::new();
     let mut args = std::env::args().skip(1);
     while let Some(arg) = args.next() {
         match arg.as_str() {
             "--only" => which = Which::of_word(&args.next()?)?,
             "--mevo" => mevo = true,
+            "--rigs" => rigs = true,
             "--bad" => bad = true,
             number => numbers.push(number.parse().ok()?),
         }
@@ -60,7 +61,7 @@ fn task() -> Option<Task> {
     Some(Task {
         calls,
         seed,
-        leaning: Leaning { which, model },
+        leaning: Leaning { which, model, rigs },
         bad,
     })
 }

@@ -6,7 +6,7 @@ use std::{fs, io};
 
 use oracle::compare::{Source, as_text};
 use oracle::coverage::Coverage;
-use oracle::generate::{LEANINGS, Leaning};
+use oracle::generate::{LEANINGS, Leaning, leaning};
 use oracle::list::Which;
 use oracle::protocol::handshake::DeviceModel;
 
@@ -19,10 +19,7 @@ const MARK: char = '\u{FEFF}';
 const GOOD_CALLS: u64 = 1_100;
 const CALLS_BETWEEN_BAD_LINES: u64 = 1_500;
 /// A list of its has the words of all sequences.
-const WITH_BAD_LINES: Leaning = Leaning {
-    which: Which::Arm,
-    model: DeviceModel::Mevo,
-};
+const WITH_BAD_LINES: Leaning = leaning(Which::Arm, DeviceModel::Mevo);
 
 fn main() -> ExitCode {
     let args: Vec<_> = std::env::args_os().skip(1).collect();

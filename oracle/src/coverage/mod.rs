@@ -3,6 +3,7 @@
 mod arm;
 mod avr_config;
 mod disarm;
+mod places;
 mod sheets;
 mod start_ups;
 mod tables;
@@ -21,6 +22,8 @@ pub struct Coverage {
     pub bad_lines: u64,
     /// Whether an arm with as many nacks as are counted is among them.
     pub long_arm: bool,
+    /// Whether payloads with a rig's tag are among them.
+    pub rigs: bool,
     /// In the order of `Which::ALL`.
     sequences: [Counts; Which::ALL.len()],
     reasons: [u64; Reason::ALL.len()],
@@ -45,6 +48,7 @@ impl Default for Coverage {
             calls: 0,
             bad_lines: 0,
             long_arm: false,
+            rigs: false,
             sequences: Which::ALL.map(Counts::new),
             reasons: [0; Reason::ALL.len()],
             early: Vec::new(),
@@ -145,6 +149,7 @@ impl Coverage {
         self.calls += other.calls;
         self.bad_lines += other.bad_lines;
         self.long_arm |= other.long_arm;
+        self.rigs |= other.rigs;
         for (to, from) in self.sequences.iter_mut().zip(&other.sequences) {
             to.add(from);
         }
@@ -152,10 +157,14 @@ impl Coverage {
     }
 
     /// The rows and answers of these sequences that were never met. What
-    /// takes a long arm is left out if none was made.
+    /// takes a long arm, or a rig's tag, is left out if none was made.
     pub fn missing(&self, of: &[Which]) -> Vec<String> {
         let asked = self.sequences.iter().filter(|c| of.contains(&c.which));
-        asked.flat_map(|c| c.missing(self.long_arm)).collect()
+        let wanted = |name: &str| {
+            (self.long_arm || !arm::LONG.contains(&name))
+                && (self.rigs || !places::OF_RIGS.contains(&name))
+        };
+        asked.flat_map(|c| c.missing(wanted)).collect()
     }
 
     /// The reasons of bad lines that were never met. The DSP has every call
@@ -200,7 +209,8 @@ impl Counts {
         add_each(self.answers.iter_mut(), other.answers.iter());
     }
 
-    fn missing(&self, long_arm: bool) -> Vec<String> {
+    /// Of the answers only those that are wanted.
+    fn missing(&self, wanted: impl Fn(&str) -> bool) -> Vec<String> {
         let (word, columns) = (self.which.word(), self.table.columns);
         let mut missing = Vec::new();
         for (Row { name, on }, counts) in self.table.rows.iter().zip(&self.rows) {
@@ -213,7 +223,6 @@ impl Counts {
                 }
             }
         }
-        let wanted = |name: &str| long_arm || !arm::LONG.contains(&name);
         let answers = self.table.answers.iter().zip(&self.answers);
         let never = answers.filter(|(name, count)| **count == 0 && wanted(name));
         missing.extend(never.map(|(name, _)| format!("{word}: {name}")));

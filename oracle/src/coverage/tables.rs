@@ -1,7 +1,7 @@
 //! What is counted of each sequence: the rows of its table with what ticks
 //! them, what else it does or leaves undone, and its answers.
 
-use super::{arm, avr_config, disarm, sheets, start_ups};
+use super::{arm, avr_config, disarm, places, sheets, start_ups};
 use crate::list::{Begin, Call, Feed, Which};
 use crate::model::Model;
 use crate::running::View;
@@ -59,7 +59,7 @@ pub fn table(which: Which) -> Table {
     Table {
         columns,
         rows: [rows, sheets::rows(which)].concat(),
-        answers: [answers, sheets::answer_names(which)].concat(),
+        answers: [answers, places::names(which), sheets::answer_names(which)].concat(),
     }
 }
 
@@ -163,7 +163,7 @@ pub fn answers(event: &Event, table: &Table) -> Vec<&'static str> {
     match event.before.which {
         Which::Disarm => met.extend(disarm::answers(event)),
         Which::Arm => met.extend(arm::answers(event)),
-        _ => met.extend(sheets::answers(event)),
+        _ => met.extend([places::answers(event), sheets::answers(event)].concat()),
     }
     met
 }

@@ -96,6 +96,22 @@ pub fn device_info(random: &mut Random, model: DeviceModel) -> Vec<u8> {
     without_the_rig(bytes)
 }
 
+/// A payload with a rig's tag put in: at its start, at its end or anywhere,
+/// and now and then once more. What stood there goes on behind it, so another
+/// tag may come apart.
+pub fn with_rig(random: &mut Random, mut payload: Vec<u8>) -> Vec<u8> {
+    for _ in 0..random.pick(&[1, 1, 2]) {
+        let at = match random.below(4) {
+            0 => 0,
+            1 => payload.len(),
+            _ => random.index(payload.len() + 1),
+        };
+        payload.splice(at..at, RIG_TAG.iter().copied());
+    }
+    payload.truncate(256);
+    payload
+}
+
 /// A text with a needle: alone, at its start, in its middle, at its end or
 /// twice.
 pub fn with_needle(random: &mut Random, needle: &str) -> Vec<u8> {

@@ -17,6 +17,8 @@ pub struct Caller<'a> {
     pub view: View,
     /// Whether feeds may have wall seconds.
     pub walls: bool,
+    /// Whether device infos have a rig's tag, too.
+    pub rigs: bool,
 }
 
 /// A feed before it is written.
@@ -222,13 +224,18 @@ impl Caller<'_> {
     }
 
     /// A device info, in so many cases of a hundred one of the other model.
+    /// Where rigs are among them each is as likely.
     pub fn device_info(&mut self, other: u64) -> Feed {
+        let other = if self.rigs { 50 } else { other };
         let model = match (self.model, self.random.chance(other)) {
             (DeviceModel::Xi, false) | (DeviceModel::Mevo, true) => DeviceModel::Xi,
             _ => DeviceModel::Mevo,
         };
         let mut feed = self.feed("DevInfoResp");
         feed.payload = bytes::device_info(self.random, model);
+        if self.rigs && self.random.chance(60) {
+            feed.payload = bytes::with_rig(self.random, feed.payload);
+        }
         feed
     }
 

@@ -36,10 +36,13 @@ use crate::running::View;
 pub struct Leaning {
     pub which: Which,
     pub model: DeviceModel,
+    /// Whether payloads of device infos have a rig's tag, too.
+    pub rigs: bool,
 }
 
-const fn leaning(which: Which, model: DeviceModel) -> Leaning {
-    Leaning { which, model }
+pub const fn leaning(which: Which, model: DeviceModel) -> Leaning {
+    let rigs = false;
+    Leaning { which, model, rigs }
 }
 
 /// Only a Mevo has a Pi. A settings run and a disarm are the same on each
@@ -55,6 +58,13 @@ pub const LEANINGS: [Leaning; 9] = [
     leaning(Which::Arm, DeviceModel::Xi),
     LONG_ARM,
 ];
+
+/// Lists of a DSP in which devices name a rig, a Xi, both or neither. Their
+/// models aren't the Rust's.
+pub const RIGS: Leaning = Leaning {
+    rigs: true,
+    ..leaning(Which::Dsp, DeviceModel::Xi)
+};
 
 /// The one of which a long comparison has a long arm.
 pub const LONG_ARM: Leaning = leaning(Which::Arm, DeviceModel::Mevo);
@@ -74,7 +84,7 @@ impl Generator {
     pub fn new(seed: u64, leaning: Leaning) -> Self {
         let place = LEANINGS.iter().position(|l| *l == leaning);
         let mut random = Random::new(seed);
-        for _ in 0..=place.unwrap_or(0) {
+        for _ in 0..=place.unwrap_or(LEANINGS.len()) {
             random = Random::new(random.bits());
         }
         Generator {
@@ -166,6 +176,7 @@ impl Generator {
             first: self.first,
             view,
             walls: self.leaning.which != Which::Dsp,
+            rigs: self.leaning.rigs,
         };
         call.words()
     }

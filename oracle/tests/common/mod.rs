@@ -123,6 +123,24 @@ pub fn message(named: &str, model: &str, now: u64) -> String {
     format!("feed {now} {src} 0 {kind}{fields}{bytes}")
 }
 
+/// A DSP's start-up up to its result, with a device info that has this text
+/// and payload.
+pub fn dsp_result(info: &str) -> String {
+    let fed = |named| message(named, "Mevo", 0);
+    let infos = ["ProdInfoResp from Dsp"; 3].map(fed).join("\n");
+    [
+        "dsp",
+        &fed("DspStatus from Dsp"),
+        &fed("DspQueryResp from Dsp"),
+        &format!("feed 0 Dsp 0xE7 DevInfoResp {info}"),
+        &infos,
+        &fed("ConfigResp from Dsp"),
+        &fed("ConfigAck 0x3F from Dsp"),
+        "result\n",
+    ]
+    .join("\n")
+}
+
 fn fields(kind: &str, acked: &str, now: u64) -> String {
     match kind {
         "DspStatus" => " V46 state=1 version=0x46".to_string(),
