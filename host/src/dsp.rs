@@ -29,6 +29,10 @@ pub struct DspSync {
     pub config: ConfigResp,
     /// The model that the device info names.
     pub model: DeviceModel,
+    /// Where the tag that decided the model first stands in the device info's
+    /// payload, counted from 0: "FS Xi" of a Xi, also behind a "BAY RIG";
+    /// "BAY RIG" of a rig. `None` of a Mevo, which has no tag.
+    pub tag_place: Option<usize>,
     /// The power-mode write, of a model that has the step, wasn't answered in
     /// time.
     pub power_mode_unanswered: bool,
@@ -184,6 +188,7 @@ fn sync(sync: &CDspSync) -> DspSync {
         prod_info: prod_info(&sync.prod_info),
         config: sync.config,
         model: sync.model,
+        tag_place: sync.tag_place.some.then_some(sync.tag_place.value),
         power_mode_unanswered: sync.power_mode_unanswered,
     }
 }

@@ -229,6 +229,11 @@ records! {
         seq: CDsp,
     }
 
+    COptionPlace {
+        some: bool,
+        value: usize,
+    }
+
     CDspSync {
         status: CDspStatus,
         status_payload: Stored,
@@ -237,6 +242,7 @@ records! {
         prod_info: [Stored; 3],
         config: ConfigResp,
         model: DeviceModel,
+        tag_place: COptionPlace,
         power_mode_unanswered: bool,
     }
 

@@ -108,6 +108,12 @@ fn dsp_sends(power_mode: bool) -> Vec<Action> {
 fn dsp_result(device: &Device, model: DeviceModel) -> DspSync {
     // The Xi refuses the query.
     let hw_info = (model != DeviceModel::XI).then(|| device.hw_info());
+    // Where the frames have it.
+    let tag_place = match model {
+        DeviceModel::XI => Some(88),
+        DeviceModel::RIG => Some(60),
+        _ => None,
+    };
     DspSync {
         status: device.dsp_status(),
         hw_info,
@@ -115,6 +121,7 @@ fn dsp_result(device: &Device, model: DeviceModel) -> DspSync {
         prod_info: [prod_info(0x00), prod_info(0x08), prod_info(0x09)],
         config: ConfigResp { params: [0; 34] },
         model,
+        tag_place,
         power_mode_unanswered: false,
     }
 }
@@ -145,24 +152,47 @@ fn dsp_start_ups() {
     }
 }
 
-/// A Xi's tag counts before a rig's, wherever they stand. The text isn't
-/// looked at.
+/// The result of a Mevo+ whose DSP has this device info.
+fn result_with(info: &DevInfoResp) -> DspSync {
+    let mut device = Device::new(Made::Plus);
+    let (mut seq, first) = DspSequencer::new();
+    drive(&mut device, first, |env| {
+        let mut env = env.clone();
+        if let Message::DevInfoResp(told) = &mut env.message {
+            told.clone_from(info);
+        }
+        seq.feed(&env, 0).unwrap()
+    });
+    seq.into_result().unwrap()
+}
+
+/// A Xi's tag counts before a rig's, wherever they stand, and the first of
+/// two. The text isn't looked at.
 #[test]
 fn models_that_payloads_name() {
-    let payloads: [(&[u8], DeviceModel); 9] = [
-        (b"FS Xi", DeviceModel::XI),
-        (b"BAY RIG", DeviceModel::RIG),
-        (b"\0BAY BAY RIGS", DeviceModel::RIG),
-        (b"FS Xi BAY RIG", DeviceModel::XI),
-        (b"BAY RIG FS Xi", DeviceModel::XI),
-        (b"BAY RIG FS X", DeviceModel::RIG),
-        (b"BAY RI", DeviceModel::MEVO),
-        (b"bay rig BAYRIG", DeviceModel::MEVO),
-        (b"", DeviceModel::MEVO),
+    let at_the_end = [&[0; 251][..], b"FS Xi"].concat();
+    let payloads: [(&[u8], DeviceModel, Option<usize>); 13] = [
+        (b"FS Xi", DeviceModel::XI, Some(0)),
+        (b"BAY RIG", DeviceModel::RIG, Some(0)),
+        (b"\0BAY BAY RIGS", DeviceModel::RIG, Some(5)),
+        (b"FS Xi BAY RIG", DeviceModel::XI, Some(0)),
+        (b"BAY RIG FS Xi", DeviceModel::XI, Some(8)),
+        (b"FS FS Xi FS Xi", DeviceModel::XI, Some(3)),
+        (b" BAY RIG BAY RIG", DeviceModel::RIG, Some(1)),
+        (&at_the_end, DeviceModel::XI, Some(251)),
+        (b"BAY RIG FS X", DeviceModel::RIG, Some(0)),
+        (b"BAY RI", DeviceModel::MEVO, None),
+        (b"bay rig BAYRIG", DeviceModel::MEVO, None),
+        (b"  FS X", DeviceModel::MEVO, None),
+        (b"", DeviceModel::MEVO, None),
     ];
-    for (payload, model) in payloads {
+    for (payload, model, place) in payloads {
         let (text, payload) = ("FS Xi BAY RIG".into(), payload.to_vec());
-        assert_eq!(DevInfoResp { text, payload }.model(), model);
+        let info = DevInfoResp { text, payload };
+        assert_eq!(info.model(), model);
+        let sync = result_with(&info);
+        assert_eq!((sync.model, sync.tag_place), (model, place));
+        assert_eq!(sync.dev_info, info);
     }
 }
 

@@ -1,11 +1,12 @@
 //! The differential run: the calls of `oracle/compare` through the Rust and
 //! through the library, with floats as numbers. After each call the outcome,
 //! the send and the whole state are compared, and the result at the end of a
-//! sequence and where it is asked for; floats by their bits. The sheet of a
-//! start-up, which the Rust hasn't, is compared after each call with what the
-//! oracle keeps by the Rust's steps, and where a place is given the whole
-//! buffer. Bytes that are lent to a kind without a place for them are left out
-//! on both sides.
+//! sequence and where it is asked for; floats by their bits. The place of the
+//! tag in a DSP's result, which the Rust hasn't, is compared with one that is
+//! found here in the payload. The sheet of a start-up, which the Rust hasn't,
+//! is compared after each call with what the oracle keeps by the Rust's steps,
+//! and where a place is given the whole buffer. Bytes that are lent to a kind
+//! without a place for them are left out on both sides.
 //!
 //! WIGTALOM_CALLS says how many calls of each sequence, WIGTALOM_SEED from
 //! which seed.
@@ -175,6 +176,25 @@ fn a_wrong_fact_of_a_model_is_noticed() {
         must_differ(which, |f| wrong(f, "factory_cal"), "factory_cal");
         must_differ(which, |f| wrong(f, "power_mode"), "power_mode");
     }
+}
+
+#[test]
+fn a_wrong_place_of_a_tag_is_noticed() {
+    fn wrong(fields: &mut Fields, alter: fn(u64) -> u64) {
+        for (name, value) in &mut fields.list {
+            match value {
+                Value::Number(number) if *name == "tag_place" => *number = alter(*number),
+                _ => {}
+            }
+        }
+    }
+    // 0 or 1 tells whether there is one, and then comes the place.
+    let from_one = |f: &mut Fields| wrong(f, |n| if n > 1 { n + 1 } else { n });
+    must_differ(Which::Dsp, from_one, "tag_place");
+    let lost = |f: &mut Fields| wrong(f, |n| if n == 1 { 0 } else { n });
+    must_differ(Which::Dsp, lost, "tag_place");
+    let made_up = |f: &mut Fields| wrong(f, |n| if n == 0 { 1 } else { n });
+    must_differ(Which::Dsp, made_up, "tag_place");
 }
 
 #[test]

@@ -174,9 +174,30 @@ records! {
 
 // What is given at the end.
 records! {
-    DspSync { status, hw_info, dev_info, prod_info, config, model, power_mode_unanswered }
     AvrSync { status, dev_info, config, factory_cal, if_cal, avr_config }
     PiSync { dev_info, cam_config, ssid, password }
+}
+
+impl Compared for wigtalom::DspSync {
+    fn put(&self, _: &'static str, to: &mut Fields) {
+        put!(to, self: status, hw_info, dev_info, prod_info, config, model, tag_place);
+        put!(to, self: power_mode_unanswered);
+    }
+}
+
+/// With the place of the tag, which the Rust doesn't tell.
+impl Compared for rust::DspSync {
+    fn put(&self, _: &'static str, to: &mut Fields) {
+        put!(to, self: status, hw_info, dev_info, prod_info, config, model);
+        place_of_xi_tag(&self.dev_info.payload).put("tag_place", to);
+        put!(to, self: power_mode_unanswered);
+    }
+}
+
+/// No payload of the run has a rig's tag.
+fn place_of_xi_tag(payload: &[u8]) -> Option<usize> {
+    const XI_TAG: &[u8] = b"FS Xi";
+    payload.windows(XI_TAG.len()).position(|w| w == XI_TAG)
 }
 
 /// The enums that both sides have, with the cases that are compared.

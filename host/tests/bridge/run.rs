@@ -157,7 +157,7 @@ impl Run {
     }
 }
 
-/// Whether a payload has the rig's tag, which the generator never makes.
+/// Whether a payload has the rig's tag, which none of its lists has.
 fn names_a_rig(call: &Call) -> bool {
     const RIG_TAG: &[u8] = b"BAY RIG";
     let payload = match call {
