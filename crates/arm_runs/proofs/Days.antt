@@ -9,10 +9,12 @@ use Rattle.protocol.specs.declared.BusAddr.{BusAddr}
 use Rattle.protocol.specs.declared.Message.{Message}
 use Rattle.protocol.specs.declared.DspStatus.{DspStatus}
 use Rattle.protocol.specs.Carried.{no_avr_status}
+use Rattle.std.specs.Prelude.{codes}
 use Rattle.device.specs.Model as models
 use Rattle.sequence.specs.Events.{Envelope, plain}
 use Rattle.arm_steps.specs.declared.ArmStep.{ArmStep}
-use Rattle.arm_steps.specs.Answers.{armed_bytes, cancelled_bytes}
+use Rattle.arm_steps.specs.Armed.{armed_bytes}
+use Rattle.arm_steps.specs.Answers.{cancelled_bytes}
 use Rattle.arm_runs.specs.Theorem.{run, nacks, armed_since, state}
 use Rattle.arm_runs.proofs.Whole.{right}
 
@@ -44,12 +46,15 @@ xi =
 pub xi_retries : (state models.xi xi).retries ≡ 2
 xi_retries = (right models.xi xi).retries
 
--- "DISARMED" contains "ARMED"
-abbrev xi_armed : List Envelope
-xi_armed = xi ++ text (0x44 ∷ 0x49 ∷ 0x53 ∷ armed_bytes) ∷ []
+-- "DISARMED" alone is no armed text; with another "ARMED" behind a blank it is
+abbrev xi_disarmed : List Envelope
+xi_disarmed = xi ++ text (codes "DISARMED") ∷ []
 
-pub xi_done : (state models.xi xi_armed).step ≡ ArmStep.Done
-xi_done = (right models.xi xi_armed).done.1 refl
+pub xi_not_armed : (state models.xi xi_disarmed).step ≡ ArmStep.Done → ⊥
+xi_not_armed d = true≢false (sym ((right models.xi xi_disarmed).done.0 d))
+
+pub xi_done : (state models.xi (xi_disarmed ++ text (codes "DISARMED ARMED") ∷ [])).step ≡ ArmStep.Done
+xi_done = (right models.xi (xi_disarmed ++ text (codes "DISARMED ARMED") ∷ [])).done.1 refl
 
 -- "ARMED CANCELLED"
 abbrev xi_cancelled : List Envelope

@@ -6,6 +6,7 @@ use Rattle.protocol.specs.declared.BusAddr.{BusAddr}
 use Rattle.protocol.specs.declared.Action.{Action}
 use Rattle.protocol.specs.Kinds as kinds
 use Rattle.device.specs.Search.{contains}
+use Rattle.arm_steps.specs.Armed.{says_armed}
 use Rattle.requests.specs.Requests.{status_poll, avr_config_cmd}
 use Rattle.sequence.specs.Events.{Envelope, of_kind, kind}
 use Rattle.arm_steps.specs.declared.ArmStep.{ArmStep}
@@ -30,15 +31,12 @@ ack = kind 0x30 kinds.config_ack
 abbrev pub pi_status : Envelope → Bool
 pi_status = of_kind kinds.pi_status
 
-abbrev pub armed_bytes : List ℕ
-armed_bytes = codes "ARMED"
-
 abbrev pub cancelled_bytes : List ℕ
 cancelled_bytes = codes "CANCELLED"
 
--- a text that contains the first and not the second
+-- a text in which an occurrence of "ARMED" counts, and no "CANCELLED" stands
 abbrev pub is_armed : List ℕ → Bool
-is_armed text = contains armed_bytes text && not (contains cancelled_bytes text)
+is_armed text = says_armed text && not (contains cancelled_bytes text)
 
 abbrev pub armed : Envelope → Bool
 armed e = of_kind kinds.text e && is_armed e.text

@@ -1,1 +1,3 @@
+pub mod Armed
 pub mod Answers
+pub mod Rules

@@ -2,12 +2,15 @@
 // of nacks, are crate arm's.
 #![tactic(auto)]
 
+pub mod armed;
+
 ghost use Rattle.std.specs.Prelude.{◌≡◌, false, []};
 ghost use Rattle.protocol.specs.declared.BusAddr.{BusAddr};
 ghost use Rattle.sequence.specs.Events.{plain};
 ghost use Rattle.arm_steps.specs.declared.ArmStep.{ArmStep};
 ghost use Rattle.arm_steps.specs.Answers.{is_armed, send, no_send, moved_at};
 
+use armed::says_armed;
 use device::search::find;
 use protocol::{Action, BusAddr, Message};
 use requests::{avr_config_cmd, status_poll};
@@ -35,7 +38,7 @@ pub struct ArmMoved {
 fn is_armed(text: &[u8]) -> bool
     ensures { result ≡ is_armed text.now }
 {
-    find(text, b"ARMED").is_some() && find(text, b"CANCELLED").is_none()
+    says_armed(text) && find(text, b"CANCELLED").is_none()
 }
 
 // A send, and the step that it begins.

@@ -121,8 +121,15 @@ starred =
     -- "range": ssid range, password empty
     trial (bytes (ssid_in (network (codes "range")))) (bytes (stored (codes "range"))) ∷
     trial (bytes (password_in (network (codes "range")))) (bytes (stored [])) ∷
-    -- arm, last step on Xi, Text "DISARMED": Done
-    trial (arming (said (codes "DISARMED"))) (arming ArmStep.Done) ∷
+    -- arm, last step on Xi, Text "DISARMED": not Done
+    trial (arming (said (codes "DISARMED"))) (arming (ArmStep.WaitPiAndArmed true false)) ∷
+    -- " ARMED", "DISARMED ARMED", "disARMED", a byte 0x89 before it: Done
+    trial (arming (said (codes " ARMED"))) (arming ArmStep.Done) ∷
+    trial (arming (said (codes "DISARMED ARMED"))) (arming ArmStep.Done) ∷
+    trial (arming (said (codes "disARMED"))) (arming ArmStep.Done) ∷
+    trial (arming (said (0x89 ∷ codes "ARMED"))) (arming ArmStep.Done) ∷
+    -- "DARMEDARMED": not
+    trial (arming (said (codes "DARMEDARMED"))) (arming (ArmStep.WaitPiAndArmed true false)) ∷
     -- "ARMED CANCELLED": not
     trial (arming (said (codes "ARMED CANCELLED"))) (arming (ArmStep.WaitPiAndArmed true false)) ∷
     []
