@@ -1,6 +1,7 @@
 //! The arm.
 
 use crate::addr::BusAddr;
+use crate::armed;
 use crate::list::{Feed, Which};
 use crate::protocol::Message;
 use crate::protocol::handshake::DeviceModel;
@@ -42,6 +43,11 @@ impl Sequencer for ArmSequencer {
             return None;
         }
         refusal::of_counted_nack(seq.retries)
+    }
+
+    /// At whatever step.
+    fn keeps_back(&self, feed: &Feed) -> bool {
+        armed::differs_in(feed)
     }
 
     fn retries(&self) -> Option<u16> {

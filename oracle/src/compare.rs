@@ -5,10 +5,12 @@ use std::io::{self, Write};
 use std::process::{Command, Stdio};
 use std::thread;
 
+use crate::armed;
 use crate::coverage::Coverage;
 use crate::front::Front;
 use crate::generate::{BadLines, Generator, LONG_ARM, Leaning};
 use crate::list::{self, Call, Which};
+use crate::running::View;
 use crate::show::Show;
 
 /// The lines after which a list ends, with its last sequence.
@@ -26,6 +28,8 @@ pub struct Source {
     bad_lines: Option<BadLines>,
     /// The lines of each kind of badness, still to be put in.
     written: Vec<String>,
+    /// Whether an arm's run ends before a text on which the rules differ.
+    cuts: bool,
     pub coverage: Coverage,
 }
 
@@ -43,20 +47,29 @@ impl Source {
             generator: Generator::new(seed, leaning),
             written: bad_lines.as_mut().map(BadLines::all).unwrap_or_default(),
             bad_lines,
+            cuts: false,
             coverage: Coverage::default(),
         };
         source.coverage.rigs = leaning.rigs;
         source
     }
 
-    /// For so many calls: with a long arm, if they are enough.
+    /// For so many calls: with a long arm, if they are enough, and no further
+    /// than the Rust can be compared with.
     pub fn of_calls(calls: u64, seed: u64, leaning: Leaning, with_bad_lines: bool) -> Self {
         let mut source = Source::new(seed, leaning, with_bad_lines);
+        source.cuts = true;
         if calls >= LONG_ARM_CALLS && leaning == LONG_ARM {
             source.generator.long_arm();
             source.coverage.long_arm = true;
         }
         source
+    }
+
+    /// The same, but each run to its end.
+    pub fn whole(self) -> Self {
+        let cuts = false;
+        Source { cuts, ..self }
     }
 
     /// The next list: whole sequences, but no more than so many calls.
@@ -98,7 +111,24 @@ impl Source {
         }
     }
 
+    /// Whether a line is left out, and with it what its run would still have.
+    fn cut(&mut self, line: &str, view: Option<View>) -> bool {
+        let Some(view) = view.filter(|view| self.cuts && view.which == Which::Arm) else {
+            return false;
+        };
+        let call = match list::read(line.as_bytes(), Some(view.which)) {
+            Ok(Some(call)) if armed::cuts(view.which, &call) => call,
+            _ => return false,
+        };
+        self.coverage.cut(&call, view);
+        self.generator.cut();
+        true
+    }
+
     fn put(&mut self, line: String, front: &mut Front, list: &mut List) {
+        if self.cut(&line, front.view()) {
+            return;
+        }
         let (before, from) = (front.view(), list.answers.len());
         let read = front.line(line.as_bytes(), &mut list.answers);
         let answer = list.answers[from..].trim_end_matches('\n');

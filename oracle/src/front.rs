@@ -4,6 +4,7 @@ use std::io::{self, BufRead, Write};
 use std::time::Instant;
 
 use crate::addr::BusAddr;
+use crate::armed;
 use crate::conn::Envelope;
 use crate::list::{self, Bad, Begin, Call};
 use crate::model::Model;
@@ -125,6 +126,22 @@ pub fn run(list: &mut dyn BufRead, to: &mut dyn Write, with_state: bool) -> io::
         line.clear();
     }
     to.flush()
+}
+
+/// The lines of a list, from 0, that feed an arm a text on which the rules
+/// differ.
+pub fn differing<'a>(lines: impl IntoIterator<Item = &'a [u8]>) -> Vec<usize> {
+    let (mut front, mut found) = (Front::new(false), Vec::new());
+    for (place, line) in lines.into_iter().enumerate() {
+        let which = front.view().map(|view| view.which);
+        let read = front.line(line, &mut String::new());
+        if let (Some(which), Ok(Some(call))) = (which, read)
+            && armed::cuts(which, &call)
+        {
+            found.push(place);
+        }
+    }
+    found
 }
 
 fn ack(model: Model, src: BusAddr, type_id: u8, out: &mut String) {

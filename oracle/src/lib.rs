@@ -24,6 +24,7 @@ pub mod frame;
 include!(concat!(env!("OUT_DIR"), "/modules.rs"));
 
 mod arm;
+pub mod armed;
 mod avr;
 mod avr_config;
 pub mod broken;

@@ -122,6 +122,12 @@ pub trait Sequencer: Sequence {
         None
     }
 
+    /// Whether the Rust isn't handed this feed, since it would go by a rule
+    /// that isn't the sequence's. It is then one that is not awaited.
+    fn keeps_back(&self, _feed: &Feed) -> bool {
+        false
+    }
+
     fn check(&mut self, _now: Instant) -> Vec<Action> {
         unreachable!("not a call of this sequence")
     }
@@ -243,7 +249,10 @@ impl<S: Sequencer> Running for Run<S> {
         }
         let before = self.place();
         let (now, wall) = (self.clock.at(feed.now), wall(feed.wall));
-        let actions = self.seq.feed(&envelope(feed), now, wall);
+        let actions = match self.seq.keeps_back(feed) {
+            true => Vec::new(),
+            false => self.seq.feed(&envelope(feed), now, wall),
+        };
         let tick = (feed.now, How::of(&feed.message));
         self.accepted(tick, before, &actions, out);
     }

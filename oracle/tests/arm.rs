@@ -163,11 +163,26 @@ fn done(bytes: &str) -> bool {
     answers(&format!("{lines}\n{feed}"), false).ends_with("; Done\n")
 }
 
-/// The first and "ARMED CANCELLED" are trials of docs/SCOPE.md, "Trials".
+/// The first four of those that count are trials of docs/SCOPE.md, "Trials",
+/// and so are the first three of the others.
 #[test]
 fn texts() {
     for text in [
-        "\"DISARMED\"",
+        "\" ARMED\"",
+        "\"DISARMED ARMED\"",
+        "\"disARMED\"",
+        "\"\\x89ARMED\"",
+        "\"ÉARMED\"",
+        "\"@ARMED\"",
+        "\"[ARMED\"",
+        "\"aARMED\"",
+        "\"zARMED\"",
+        "\"1ARMED\"",
+        "\"ÀARMED\"",
+        "\"ARMED DISARMED\"",
+        "\"ARMEDZ\"",
+        "\"DISARMED, DISARMED, ARMED\"",
+        "\"ZARMED\\x0AARMED\"",
         "\"ARMED\"",
         "\"ARMED.\"",
         "\"x ARMED\"",
@@ -180,7 +195,16 @@ fn texts() {
         assert!(done(text), "{text}");
     }
     for text in [
+        "\"DISARMED\"",
+        "\"DARMEDARMED\"",
         "\"ARMED CANCELLED\"",
+        "\"AARMED\"",
+        "\"ZARMED\"",
+        "\" DISARMED \"",
+        "\"DISARMED, DISARMED\"",
+        "\"DISARMEDARMED\"",
+        "\"DISARMED armed\"",
+        "\"ARMED DISARMED CANCELLED\"",
         "\"DISARMED CANCELLED\"",
         "\"CANCELLED ARMED\"",
         "\"CANCELLED\"",
@@ -196,6 +220,43 @@ fn texts() {
     ] {
         assert!(!done(text), "{text}");
     }
+}
+
+/// A text on which the rules differ is not awaited, at whatever step.
+#[test]
+fn disarmed_at_each_step() {
+    let text = "feed 0 Avr 0xE3 Text text=\"DISARMED\"";
+    check_pairs(&[
+        ("arm Mevo", BEGUN),
+        (text, "accepted; no send; WaitDspStatus"),
+        (DSP_STATUS, POLLED_AVR),
+        (text, "accepted; no send; WaitAvrStatus"),
+        (AVR_STATUS, ARMING),
+        (text, "accepted; no send; WaitArmAck"),
+        (NACK, AGAIN),
+        (DSP_STATUS, POLLED_AVR),
+        (AVR_STATUS, ARMING),
+        (ACK, WAITS_FOR_BOTH),
+        (text, NEITHER),
+        (PI_STATUS, WAITS_FOR_TEXT),
+        (text, WAITS_FOR_TEXT),
+        ("retries", "1"),
+        (ARMED, DONE),
+        (text, DONE),
+    ]);
+    check_after(
+        &MEVO,
+        &[
+            (ARMED, WAITS_FOR_PI),
+            (text, WAITS_FOR_PI),
+            (PI_STATUS, DONE),
+        ],
+    );
+    let from_pi = text.replace("Avr", "Pi");
+    check_after(&XI, &[(&from_pi, WAITS_FOR_TEXT), (ARMED, DONE)]);
+    let long = format!("{text} payload={}", "41".repeat(257));
+    let refused = "refused 2; no send; WaitPiAndArmed got_pi=true got_armed=false";
+    check_after(&XI, &[(&long, refused), (text, WAITS_FOR_TEXT)]);
 }
 
 /// A text of another kind isn't looked at.

@@ -82,6 +82,7 @@ fn ticks(before: &[&str], bytes: &str) -> bool {
     steps[steps.len() - 1] != steps[steps.len() - 2]
 }
 
+/// What stands before "ARMED" is nothing to a disarm.
 #[test]
 fn texts_of_the_second_step() {
     let ticks = |text: &str| ticks(&["disarm", ACKED.0], text);
@@ -91,6 +92,7 @@ fn texts_of_the_second_step() {
         "\"x ARMED CANCELLED\"",
         "\"x ARMED CANCELLED x\"",
         "\"DISARMED CANCELLED\"",
+        "\"ZARMED CANCELLED\"",
         "\"ARMED ARMED CANCELLED\"",
         "\"ARMED CANCELLED ARMED CANCELLED\"",
         "\"é\\x00ARMED CANCELLED\"",

@@ -5,6 +5,7 @@ use std::cell::Cell;
 use oracle::broken::{self, Broken};
 use oracle::compare::{LIST_LINES, LONG_ARM_CALLS, List, Source, front_answers, shrink};
 use oracle::coverage::Coverage;
+use oracle::front;
 use oracle::generate::{LEANINGS, LONG_ARM, Leaning, RIGS, Random, device_info};
 use oracle::list::{self, Begin, Call, Which};
 use oracle::model::{Model, has};
@@ -47,6 +48,57 @@ fn everything_is_met() {
         assert_eq!(all.missing(&[which]), Vec::<String>::new());
         assert_eq!(all.missing_reasons(&[which]), Vec::<String>::new());
     }
+}
+
+/// So it is where runs are cut.
+#[test]
+fn everything_is_met_of_a_comparison() {
+    for which in [Which::AvrConfig, Which::Disarm, Which::Arm] {
+        let mut all = Coverage::default();
+        for leaning in LEANINGS.into_iter().filter(|l| l.which == which) {
+            let mut source = Source::of_calls(10_000, 6, leaning, true);
+            source.list(usize::MAX, 10_000);
+            all.add(&source.coverage);
+        }
+        assert_eq!(all.missing(&[which]), Vec::<String>::new());
+        assert_eq!(all.missing_reasons(&[which]), Vec::<String>::new());
+    }
+}
+
+fn differing(lines: &[String]) -> Vec<usize> {
+    front::differing(lines.iter().map(|line| line.as_bytes()))
+}
+
+/// No list that is compared feeds an arm a text on which the rules differ, and
+/// a run that would ends before it. Other lists do, broken ones among them.
+#[test]
+fn runs_are_cut_where_the_rules_differ() {
+    for leaning in LEANINGS.into_iter().filter(|l| !l.which.is_start_up()) {
+        let made = |whole: bool, bad: bool| {
+            let source = Source::of_calls(5_000, 4, leaning, bad);
+            let mut source = if whole { source.whole() } else { source };
+            let lines = source.list(usize::MAX, 5_000).lines;
+            (lines, source.coverage.to_string())
+        };
+        assert_eq!(differing(&made(false, true).0), []);
+        let ((cut, counts), (whole, _)) = (made(false, false), made(true, false));
+        assert_eq!(differing(&cut), []);
+        let Some(first) = differing(&whole).first().copied() else {
+            assert!(leaning.which != Which::Arm && cut == whole);
+            continue;
+        };
+        assert_eq!(cut[..first], whole[..first]);
+        let next = list::read(cut[first].as_bytes(), Some(Which::Arm));
+        assert!(matches!(next, Ok(Some(Call::Begin(_)))), "{}", cut[first]);
+        let told = counts.lines().find(|l| l.starts_with("arm cut "));
+        let told = told.and_then(|line| line.rsplit(' ').next()).unwrap();
+        let runs: usize = told.parse().unwrap();
+        let few = if leaning.which == Which::Arm { 20 } else { 0 };
+        assert!(runs > few && differing(&whole).len() > few, "{runs}");
+    }
+    let mut broken = Broken::new(3);
+    let found = (0..500).map(|_| front::differing(broken.list().split(|b| *b == b'\n')).len());
+    assert!(found.sum::<usize>() > 10);
 }
 
 /// The first words of a list with bad lines.

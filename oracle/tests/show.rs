@@ -459,6 +459,17 @@ fn what_a_list_comes_to() {
         "3 calls, 0 refused, 0 bad lines\nthe disarm is not done: WaitStateIdle waits for ModeAck, or a \
         Text that contains System State, from\n    any source\n"
     );
+    let replies = [
+        "DspStatus from Dsp",
+        "AvrStatus from Avr",
+        "ConfigAck from Avr",
+    ];
+    let replies = replies.map(|reply| message(reply, "Xi", 0)).join("\n");
+    assert_eq!(
+        summary(&format!("arm Xi\n{replies}\n")),
+        "4 calls, 0 refused, 0 bad lines\nthe arm is not done: WaitPiAndArmed got_pi=true got_armed=false \
+        waits for a Text with ARMED behind\n    no capital letter, and no CANCELLED, from any source\n"
+    );
     let done = format!("{disarm}feed 0 Avr 1 ModeAck\n");
     assert_eq!(
         summary(&done),

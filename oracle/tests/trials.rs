@@ -1,10 +1,13 @@
-//! Trials of docs/SCOPE.md, "Trials", run with the Rust.
+//! Trials of docs/SCOPE.md, "Trials", run with the Rust, where it is held to
+//! them.
 
 use std::fs;
 use std::time::{Duration, Instant, UNIX_EPOCH};
 
 use oracle::addr::BusAddr;
+use oracle::armed;
 use oracle::conn::Envelope;
+use oracle::generate::Random;
 use oracle::protocol::config::{ModeSet, ParamData, ParamValue, RadarCal};
 use oracle::protocol::handshake::{DevInfoResp, DeviceModel};
 use oracle::protocol::status::{AvrStatus, ConfigAck, DspStatus, DspStatus46, Text};
@@ -194,10 +197,72 @@ fn armed_by(text: &str) -> bool {
     seq.is_complete()
 }
 
+/// The Rust is held to the first five. On the others the rules differ:
+/// tests/arm.rs has their trials.
 #[test]
 fn texts_of_an_arm() {
-    assert!(armed_by("DISARMED"));
-    assert!(!armed_by("ARMED CANCELLED"));
+    let trials = [
+        (" ARMED", true),
+        ("DISARMED ARMED", true),
+        ("disARMED", true),
+        ("ÉARMED", true),
+        ("ARMED CANCELLED", false),
+    ];
+    for (text, done) in trials {
+        assert!(!armed::differs(text.as_bytes()), "{text}");
+        assert_eq!(armed_by(text), done, "{text}");
+    }
+    for text in ["DISARMED", "DARMEDARMED"] {
+        assert!(armed::differs(text.as_bytes()), "{text}");
+        assert!(armed_by(text), "{text}");
+    }
+}
+
+/// Whether "ARMED" stands in a text, each time behind a capital letter, and
+/// "CANCELLED" nowhere. Before one that follows another at once stands a D.
+fn behind_capitals(text: &str) -> bool {
+    let parts: Vec<&str> = text.split("ARMED").collect();
+    let (_, before) = parts.split_last().unwrap();
+    let is_capital = |(place, part): (usize, &&str)| match part.chars().last() {
+        Some(last) => last.is_ascii_uppercase(),
+        None => place > 0,
+    };
+    !before.is_empty() && before.iter().enumerate().all(is_capital) && !text.contains("CANCELLED")
+}
+
+/// What the front end says of a text is what the Rust does, but on these; and
+/// the Rust takes each of them.
+#[test]
+fn both_rules_for_the_armed_text() {
+    const PIECES: [&str; 16] = [
+        "ARMED",
+        "ARMED",
+        "DISARMED",
+        "CANCELLED",
+        "ARME",
+        "RMED",
+        "D",
+        "A",
+        "Z",
+        "@",
+        "[",
+        "a",
+        "z",
+        "é",
+        "É",
+        " ",
+    ];
+    let (mut random, mut met) = (Random::new(1), [0; 3]);
+    for _ in 0..20_000 {
+        let count = random.index(7);
+        let text: String = (0..count).map(|_| random.pick(&PIECES)).collect();
+        let (rust, differs) = (armed_by(&text), armed::differs(text.as_bytes()));
+        assert_eq!(differs, behind_capitals(&text), "{text}");
+        assert_eq!(armed::is_armed(text.as_bytes()), rust && !differs, "{text}");
+        assert!(rust || !differs, "{text}");
+        met[if differs { 2 } else { usize::from(rust) }] += 1;
+    }
+    assert!(met.iter().all(|count| *count > 1_000), "{met:?}");
 }
 
 fn in_package(file: &str) -> String {

@@ -109,11 +109,11 @@ const ARM: [Step; 7] = [
     Step("WaitArmAck", "ConfigAck or ConfigNack from Avr"),
     Step(
         "WaitPiAndArmed got_pi=false got_armed=false",
-        "a Text that contains ARMED and not CANCELLED, and a PiStatus, in either order, from any source",
+        "a Text with ARMED behind no capital letter, and no CANCELLED, and a PiStatus, in either order, from any source",
     ),
     Step(
         "WaitPiAndArmed got_pi=true got_armed=false",
-        "a Text that contains ARMED and not CANCELLED, from any source",
+        "a Text with ARMED behind no capital letter, and no CANCELLED, from any source",
     ),
     Step(
         "WaitPiAndArmed got_pi=false got_armed=true",

@@ -5,6 +5,7 @@ use std::ffi::OsString;
 use std::process::ExitCode;
 
 use oracle::broken::{self, Broken};
+use oracle::front;
 
 const USAGE: &str = "usage: broken N [SEED] --replay PATH";
 
@@ -21,6 +22,7 @@ struct Counts {
     bad_lines: usize,
     refused: usize,
     with_bad_lines: usize,
+    differing: usize,
 }
 
 fn main() -> ExitCode {
@@ -54,9 +56,11 @@ fn main() -> ExitCode {
         bad_lines,
         refused,
         with_bad_lines,
+        differing,
     } = counts;
     println!("{lines} lines, {answers} answers, {bad_lines} of them bad lines, {refused} refused");
     println!("{with_bad_lines} lists with a bad line (status 1), the others without (status 0)");
+    println!("{differing} feeds of an arm that the Rust isn't handed: there the rules differ");
     ExitCode::SUCCESS
 }
 
@@ -66,6 +70,7 @@ impl Counts {
         let text = String::from_utf8_lossy(&answers.output);
         self.lines += list.split(|b| *b == b'\n').count();
         self.with_bad_lines += usize::from(answers.status == "1");
+        self.differing += front::differing(list.split(|b| *b == b'\n')).len();
         for line in text.lines() {
             let answer = line.split_once(": ").map_or("", |(_, answer)| answer);
             self.answers += 1;

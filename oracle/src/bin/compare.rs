@@ -1,6 +1,7 @@
 //! compare N [SEED] --replay PATH [--only SEQUENCE] [--bad] [--show]: runs N
 //! calls of each sequence and model, and N of a DSP with rigs, through the Rust
 //! and through the program at PATH; with --show both show the lists to people.
+//! A run of an arm ends before a text on which the rules differ.
 
 use std::io;
 use std::process::ExitCode;

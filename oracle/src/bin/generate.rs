@@ -1,5 +1,6 @@
-//! generate N [SEED] [--only SEQUENCE] [--mevo] [--rigs] [--bad]: writes a
-//! list of N calls, of a DSP if nothing else is said.
+//! generate N [SEED] [--only SEQUENCE] [--mevo] [--rigs] [--whole] [--bad]:
+//! writes a list of N calls, of a DSP if nothing else is said. With --whole no
+//! run of an arm is cut.
 
 use std::io::{self, Write};
 use std::process::ExitCode;
@@ -9,13 +10,14 @@ use oracle::generate::Leaning;
 use oracle::list::Which;
 use oracle::protocol::handshake::DeviceModel;
 
-const USAGE: &str = "usage: generate N [SEED] [--only SEQUENCE] [--mevo] [--rigs] [--bad]
+const USAGE: &str = "usage: generate N [SEED] [--only SEQUENCE] [--mevo] [--rigs] [--whole] [--bad]
 SEQUENCE: dsp, avr, pi, avr_config, disarm or arm";
 
 struct Task {
     calls: u64,
     seed: u64,
     leaning: Leaning,
+    whole: bool,
     bad: bool,
 }
 
@@ -25,6 +27,9 @@ fn main() -> ExitCode {
         return ExitCode::from(2);
     };
     let mut source = Source::of_calls(task.calls, task.seed, task.leaning, task.bad);
+    if task.whole {
+        source = source.whole();
+    }
     while source.coverage.calls < task.calls {
         let list = source.list(LIST_LINES, task.calls - source.coverage.calls);
         let text = as_text(&list.lines);
@@ -36,7 +41,8 @@ fn main() -> ExitCode {
 }
 
 fn task() -> Option<Task> {
-    let (mut which, mut mevo, mut rigs, mut bad) = (Which::Dsp, false, false, false);
+    let (mut which, mut mevo, mut rigs) = (Which::Dsp, false, false);
+    let (mut whole, mut bad) = (false, false);
     let mut numbers: Vec<u64> = Vec::new();
     let mut args = std::env::args().skip(1);
     while let Some(arg) = args.next() {
@@ -44,6 +50,7 @@ fn task() -> Option<Task> {
             "--only" => which = Which::of_word(&args.next()?)?,
             "--mevo" => mevo = true,
             "--rigs" => rigs = true,
+            "--whole" => whole = true,
             "--bad" => bad = true,
             number => numbers.push(number.parse().ok()?),
         }
@@ -62,6 +69,7 @@ fn task() -> Option<Task> {
         calls,
         seed,
         leaning: Leaning { which, model, rigs },
+        whole,
         bad,
     })
 }

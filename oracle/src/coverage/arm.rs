@@ -3,6 +3,7 @@
 use super::tables::{Event, Row, both, mevo, xi};
 use super::texts;
 use crate::addr::BusAddr;
+use crate::armed;
 use crate::list::{Call, Feed};
 use crate::protocol::Message;
 use crate::protocol::handshake::DeviceModel;
@@ -37,7 +38,7 @@ pub const ROWS: [Row; 24] = [
     xi("no tick: 4 PiStatus"),
 ];
 
-pub const ANSWERS: [&str; 31] = [
+pub const ANSWERS: [&str; 43] = [
     "begun without model",
     "begun with Mevo",
     "begun with Xi",
@@ -56,10 +57,22 @@ pub const ANSWERS: [&str; 31] = [
     texts::CUT_SHORT,
     texts::LOWER_CASE,
     texts::OTHER_KIND,
-    "DISARMED",
+    BEHIND[0],
+    BEHIND[1],
+    BEHIND[2],
+    BEHIND[3],
+    "ARMED counts, the first doesn't",
+    "ARMED counts, a later one doesn't",
     "ARMED CANCELLED",
     "CANCELLED ARMED",
     "ARMED and CANCELLED apart",
+    "ARMED behind a capital, CANCELLED",
+    DIFFERS[0],
+    DIFFERS[1],
+    DIFFERS[2],
+    DIFFERS[3],
+    DIFFERS[4],
+    DIFFERS[5],
     "retries 0",
     "retries 1",
     "retries of more",
@@ -73,6 +86,25 @@ pub const ANSWERS: [&str; 31] = [
 
 /// What only an arm with 65,535 nacks meets.
 pub const LONG: [&str; 3] = ["retries 65535", "refused 13", "ConfigAck after 65535 nacks"];
+
+/// Of an armed text with one "ARMED": what stands before that.
+const BEHIND: [&str; 4] = [
+    "ARMED behind a small letter",
+    "ARMED behind 0x40",
+    "ARMED behind 0x5B",
+    "ARMED behind 0x89",
+];
+
+/// Of a text on which the rules differ: at which step it is fed, or the run is
+/// cut; and what it is like.
+const DIFFERS: [&str; 6] = [
+    "rules differ: before the last step",
+    "rules differ: at the last step",
+    "rules differ: after Done",
+    "rules differ: ARMED behind A",
+    "rules differ: ARMED behind Z",
+    "rules differ: ARMED twice",
+];
 
 const ARMED: &str = "ARMED";
 const CANCELLED: &str = "CANCELLED";
@@ -137,18 +169,34 @@ pub fn noted(event: &Event) -> Option<&'static str> {
 /// What has left the last step as it was.
 fn not_ticked(event: &Event, feed: &Feed) -> Option<&'static str> {
     let mevo = event.before.model == Some(DeviceModel::Mevo);
-    let armed = texts::has(&feed.text, ARMED);
-    let cancelled = texts::has(&feed.text, CANCELLED);
+    let has = |needle| texts::has(&feed.text, needle);
     match feed.message {
         Message::PiStatus(_) if mevo => Some("no tick: 4 PiStatus again"),
         Message::PiStatus(_) => Some("no tick: 4 PiStatus"),
-        Message::Text(_) if armed && cancelled => Some("no tick: 4 CANCELLED"),
-        Message::Text(_) if armed => Some("no tick: 4 Text again"),
+        Message::Text(_) if has(ARMED) && has(CANCELLED) => Some("no tick: 4 CANCELLED"),
+        Message::Text(_) if armed::is_armed(&feed.text) => Some("no tick: 4 Text again"),
         _ => None,
     }
 }
 
-/// What is counted of the askings, of the last step and of the limit.
+/// What is counted of a text on which the rules differ.
+pub fn differing(step: &str, text: &[u8]) -> Vec<&'static str> {
+    let mut met = vec![match step {
+        "WaitPiAndArmed" => DIFFERS[1],
+        "Done" => DIFFERS[2],
+        _ => DIFFERS[0],
+    }];
+    met.extend(match armed::before_each(text)[..] {
+        [Some(b'A')] => Some(DIFFERS[3]),
+        [Some(b'Z')] => Some(DIFFERS[4]),
+        [_, _, ..] => Some(DIFFERS[5]),
+        _ => None,
+    });
+    met
+}
+
+/// What is counted of the askings, of the last step, of the limit and of texts
+/// on which the rules differ.
 pub fn answers(event: &Event) -> Vec<&'static str> {
     if let Call::Retries = event.call {
         return vec![match event.outcome() {
@@ -161,7 +209,9 @@ pub fn answers(event: &Event) -> Vec<&'static str> {
     let Some(feed) = event.feed() else {
         return Vec::new();
     };
-    match event.before.step.name {
+    let step = event.before.step.name;
+    match step {
+        _ if event.accepted() && armed::differs_in(feed) => differing(step, &feed.text),
         "WaitPiAndArmed" => last_answers(event, feed),
         "WaitArmAck" if event.after.step.name == "WaitPiAndArmed" => {
             let long = event.before.retries == Some(MOST_RETRIES);
@@ -186,8 +236,29 @@ fn last_answers(event: &Event, feed: &Feed) -> Vec<&'static str> {
         }
         _ => None,
     });
-    if event.moved() && has("DISARMED") {
-        met.push("DISARMED");
+    if matches!(feed.message, Message::Text(_)) {
+        met.extend(before_armed(event, &feed.text));
     }
     met
+}
+
+/// What stands before each "ARMED" of a text.
+fn before_armed(event: &Event, text: &[u8]) -> Option<&'static str> {
+    let before = armed::before_each(text);
+    if event.moved() {
+        let counts: Vec<bool> = before.iter().copied().map(armed::counts).collect();
+        return match (&before[..], &counts[..]) {
+            ([Some(b'a'..=b'z')], _) => Some(BEHIND[0]),
+            ([Some(0x40)], _) => Some(BEHIND[1]),
+            ([Some(0x5B)], _) => Some(BEHIND[2]),
+            ([Some(0x89)], _) => Some(BEHIND[3]),
+            (_, [false, ..]) => Some("ARMED counts, the first doesn't"),
+            (_, [true, rest @ ..]) if rest.contains(&false) => {
+                Some("ARMED counts, a later one doesn't")
+            }
+            _ => None,
+        };
+    }
+    let spoiled = armed::never_counts(text) && texts::has(text, CANCELLED);
+    (spoiled && event.accepted()).then_some("ARMED behind a capital, CANCELLED")
 }

@@ -3,6 +3,7 @@
 use super::tables::{Event, Row, any};
 use super::texts;
 use crate::addr::BusAddr;
+use crate::armed;
 use crate::list::Feed;
 use crate::protocol::Message;
 
@@ -26,7 +27,7 @@ pub const ROWS: [Row; 17] = [
     any("no tick: 3 Text of 2"),
 ];
 
-pub const ANSWERS: [&str; 14] = [
+pub const ANSWERS: [&str; 15] = [
     texts::ALONE,
     texts::START,
     texts::MIDDLE,
@@ -38,11 +39,14 @@ pub const ANSWERS: [&str; 14] = [
     texts::CUT_SHORT,
     texts::LOWER_CASE,
     texts::OTHER_KIND,
+    BEHIND_CAPITALS,
     "refused 1",
     "refused 2",
     "feed after Done",
 ];
 
+/// An arm takes no such text.
+const BEHIND_CAPITALS: &str = "ARMED CANCELLED behind a capital";
 const MODE_RESET: &str = "ARMED CANCELLED";
 const STATE_IDLE: &str = "System State";
 
@@ -99,6 +103,14 @@ fn has(feed: &Feed, needle: &str, name: &'static str) -> Option<&'static str> {
 
 /// What is counted of the texts.
 pub fn answers(event: &Event) -> Vec<&'static str> {
-    let needle = needle(event.before.step.name);
-    needle.map_or_else(Vec::new, |needle| texts::answers(event, needle))
+    let Some(needle) = needle(event.before.step.name) else {
+        return Vec::new();
+    };
+    let mut met = texts::answers(event, needle);
+    let is_text = |feed: &&Feed| matches!(feed.message, Message::Text(_));
+    let text = event.feed().filter(is_text).filter(|_| event.moved());
+    if text.is_some_and(|feed| armed::never_counts(&feed.text)) {
+        met.push(BEHIND_CAPITALS);
+    }
+    met
 }

@@ -37,6 +37,9 @@ struct Counts {
     table: Table,
     begun: u64,
     done: u64,
+    /// Runs of an arm that are compared up to a text on which the rules differ,
+    /// and no further.
+    cut: u64,
     /// Of each row: on a Mevo, on a Xi; or all together, in the first.
     rows: Vec<[u64; 2]>,
     answers: Vec<u64>,
@@ -80,6 +83,17 @@ impl Coverage {
             Ok(None) => {}
             Ok(Some(call)) => self.call(call, before, after, answer),
             Err(bad) => self.bad_line(*bad),
+        }
+    }
+
+    /// Counts a run that ends before this call.
+    pub fn cut(&mut self, call: &Call, before: View) {
+        let counts = self.of(before.which);
+        counts.cut += 1;
+        if let Call::Feed(feed) = call {
+            for name in arm::differing(before.step.name, &feed.text) {
+                counts.answer(name);
+            }
         }
     }
 
@@ -185,6 +199,7 @@ impl Counts {
             which,
             begun: 0,
             done: 0,
+            cut: 0,
             rows: vec![[0; 2]; table.rows.len()],
             answers: vec![0; table.answers.len()],
             table,
@@ -204,6 +219,7 @@ impl Counts {
     fn add(&mut self, other: &Counts) {
         self.begun += other.begun;
         self.done += other.done;
+        self.cut += other.cut;
         let rows = self.rows.iter_mut().flatten();
         add_each(rows, other.rows.iter().flatten());
         add_each(self.answers.iter_mut(), other.answers.iter());
@@ -267,6 +283,9 @@ impl fmt::Display for Counts {
         let (word, table) = (self.which.word(), &self.table);
         line(f, &format!("{word} begun"), &[self.begun.to_string()])?;
         line(f, &format!("{word} done"), &[self.done.to_string()])?;
+        if self.which == Which::Arm {
+            line(f, "arm cut where the rules differ", &[self.cut.to_string()])?;
+        }
         writeln!(f)?;
         let columns: Vec<String> = table.columns.iter().map(|c| c.to_string()).collect();
         line(f, "row", &columns)?;

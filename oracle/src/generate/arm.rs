@@ -3,36 +3,57 @@
 use super::caller::{Caller, Feed};
 use crate::running::Fields;
 
-/// All of these have "ARMED" and not "CANCELLED".
-const ARMED: [&str; 6] = [
+/// In each "ARMED" counts somewhere; "CANCELLED" stands in none.
+const ARMED: [&str; 12] = [
+    "ARMED",
     "ARMED",
     "ARMED",
     "ARMED DetectionMode=9",
-    "DISARMED",
     "ARMED CANCELLE",
     "ARMED cancelled",
+    "DISARMED ARMED",
+    "ARMED DISARMED",
+    "disARMED",
+    "@ARMED",
+    "[ARMED",
+    "ÉARMED",
 ];
 
-/// None of these does, but the last two.
-const WRONG: [&str; 12] = [
+/// In each it stands, and never counts: on these the Rust's rule differs.
+const BEHIND_CAPITALS: [&str; 6] = [
+    "DISARMED",
+    "DISARMED",
+    "AARMED",
+    "ZARMED",
+    "DARMEDARMED",
+    "DISARMED, DISARMED",
+];
+
+/// None of these counts, by either rule.
+const WRONG: [&str; 11] = [
     "ARMED CANCELLED",
     "ARMED CANCELLED",
     "CANCELLED ARMED",
     "CANCELLED",
+    "DISARMED CANCELLED",
     "DISARMEDCANCELLED",
     "ARME",
     "RMED",
     "armed",
     "Armed",
     "ARM ED",
-    "ARMED",
-    "DISARMED",
 ];
 
 /// What goes on to the next step, or back to the first; at the last step
-/// from any source.
+/// from any source. Now and then, at each step, a text on which the rules
+/// differ.
 pub fn reply(call: &mut Caller) -> Feed {
-    match call.view.step.name {
+    let step = call.view.step.name;
+    let often = if step == "WaitPiAndArmed" { 6 } else { 1 };
+    if call.random.chance(often) {
+        return call.text(&BEHIND_CAPITALS);
+    }
+    match step {
         "WaitDspStatus" => dsp_status(call),
         "WaitAvrStatus" => call.feed("AvrStatus"),
         "WaitArmAck" if call.random.chance(45) => call.feed("ConfigNack"),
@@ -60,7 +81,7 @@ fn last(call: &mut Caller) -> Feed {
     };
     match call.random.chance(status) {
         true => call.feed_from_any("PiStatus"),
-        false => call.text(&ARMED),
+        false => call.agreed_text(&ARMED),
     }
 }
 
@@ -77,10 +98,12 @@ pub fn usual(call: &mut Caller) -> Feed {
     }
 }
 
+/// A text that doesn't count, or counts at the last step alone.
 fn wrong_text(call: &mut Caller) -> Feed {
-    match call.random.below(8) {
+    match call.random.below(9) {
         0 => call.text_with_both("ARMED", "CANCELLED"),
         1 => call.text_with_both("CANCELLED", "ARMED"),
+        2 => call.agreed_text(&ARMED),
         _ => call.text(&WRONG),
     }
 }

@@ -5,6 +5,7 @@ use super::kinds::{self, KINDS, Kind};
 use super::random::Random;
 use super::readings::Readings;
 use super::{arm, avr, avr_config, bytes, disarm, dsp, pi};
+use crate::armed;
 use crate::list::Which;
 use crate::protocol::handshake::DeviceModel;
 use crate::running::View;
@@ -207,6 +208,17 @@ impl Caller<'_> {
         let mut feed = self.feed_from_any(kind);
         feed.text = bytes::with_needle(self.random, needle);
         feed
+    }
+
+    /// One on which the rules for an arm don't differ: what is drawn before the
+    /// needle may be a capital letter.
+    pub fn agreed_text(&mut self, needles: &[&str]) -> Feed {
+        loop {
+            let feed = self.text(needles);
+            if !armed::differs(&feed.text) {
+                return feed;
+            }
+        }
     }
 
     /// A text with both, apart.

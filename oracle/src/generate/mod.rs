@@ -102,6 +102,11 @@ impl Generator {
         self.long_arm = Some(LongArm::default());
     }
 
+    /// Ends the sequence that runs.
+    pub fn cut(&mut self) {
+        self.left = 0;
+    }
+
     /// Whether the next line begins a sequence.
     pub fn at_start(&self) -> bool {
         self.left == 0
