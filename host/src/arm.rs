@@ -20,7 +20,7 @@ pub struct ArmState {
     pub step: &'static str,
     /// At `WaitPiAndArmed`: the Pi's status came. Else false.
     pub got_pi: bool,
-    /// At `WaitPiAndArmed`: the text "ARMED" came. Else false.
+    /// At `WaitPiAndArmed`: an armed text came. Else false.
     pub got_armed: bool,
     /// How many nacks were counted.
     pub retries: u16,

@@ -6,7 +6,8 @@
 //! found here in the payload. The sheet of a start-up, which the Rust hasn't,
 //! is compared after each call with what the oracle keeps by the Rust's steps,
 //! and where a place is given the whole buffer. Bytes that are lent to a kind
-//! without a place for them are left out on both sides.
+//! without a place for them are left out on both sides. A run of an arm ends
+//! before a text on which the rules differ.
 //!
 //! WIGTALOM_CALLS says how many calls of each sequence, WIGTALOM_SEED from
 //! which seed.
@@ -49,8 +50,8 @@ fn compare(which: Which) {
     }
 }
 
-/// Each refusal was met, NaNs wherever floats are stored, and each way in
-/// which entries are ticked.
+/// Each refusal was met, NaNs wherever floats are stored, each way in which
+/// entries are ticked, and runs of an arm that were cut.
 fn nothing_missing(which: Which, counts: &Counts) {
     let (refused, floats): (&[u8], bool) = match which {
         Which::Dsp => (&[1, 2, 3, 5, 11, 12], false),
@@ -70,6 +71,7 @@ fn nothing_missing(which: Which, counts: &Counts) {
         _ => [false; 3],
     };
     assert_eq!(counts.ticked.map(|count| count > 0), ticked);
+    assert_eq!(counts.cut > 0, which == Which::Arm);
 }
 
 /// Past the test harness, which would keep it back.
@@ -82,6 +84,9 @@ fn print(which: Which, seed: u64, counts: &[Counts; 6]) {
         if which.is_start_up() {
             let [replies, nacks, checks] = counts.ticked;
             text += &format!("ticked by replies {replies}, nacks {nacks}, checks {checks}; ");
+        }
+        if *which == Which::Arm {
+            text += &format!("{} cut where the rules differ; ", counts.cut);
         }
         text += &format!("NaNs: {given} handed in, {answered} compared in answers, ");
         text += &format!("{stored} in states; refused: {}\n", refused(counts));

@@ -3,6 +3,7 @@
 use std::collections::BTreeMap;
 use std::fmt::Write;
 
+use oracle::armed;
 use oracle::compare::LONG_ARM_CALLS;
 use oracle::generate::{Generator, LEANINGS, LONG_ARM, Leaning};
 use oracle::list::{self, Call, Which};
@@ -21,6 +22,8 @@ pub struct Counts {
     /// How many calls were refused, by number.
     pub refused: BTreeMap<u8, u64>,
     pub complete: u64,
+    /// Runs of an arm that end before a text on which the rules differ.
+    pub cut: u64,
     /// Entries of a start-up ticked by replies, by nacks and by checks.
     pub ticked: [u64; 3],
     /// NaNs handed in, compared in answers, and compared in states.
@@ -86,6 +89,13 @@ impl Run {
         let Some(mut call) = read.map_err(|bad| format!("{line}: {bad}"))? else {
             return Ok(());
         };
+        if let Some(which) = view.map(|view| view.which)
+            && armed::cuts(which, &call)
+        {
+            self.counts[place(which)].cut += 1;
+            self.generator.cut();
+            return Ok(());
+        }
         if let Call::Begin(_) = call {
             self.lines.clear();
         }
@@ -177,6 +187,7 @@ impl Counts {
     fn add(&mut self, other: &Counts) {
         self.calls += other.calls;
         self.complete += other.complete;
+        self.cut += other.cut;
         for (number, count) in &other.refused {
             *self.refused.entry(*number).or_default() += count;
         }
