@@ -5,9 +5,10 @@
 use crate::BusAddr;
 use crate::device::DeviceModel;
 use crate::ffi::{self, Lent};
-use crate::message::{AvrStatus, ConfigAck, DspStatus, DspStatus80, Envelope, Message, PiStatus};
+use crate::message::{AvrStatus, ConfigAck, DspStatus, DspStatus80, Message, PiStatus};
 use crate::records::{CArm, CAvr, CAvrConfig, CDsp, CPi, CTick, CTicks, CWritten, MAX_TICKS};
 use crate::settings::AvrSettings;
+use crate::unknown_numbers::env;
 
 const TEXT_TOO_LONG: u8 = 1;
 const READING_TOO_LARGE: u8 = 3;
@@ -27,15 +28,6 @@ macro_rules! refused {
         assert!(!fed.action.some);
         assert_eq!(fed.seq, seq);
     }};
-}
-
-fn env(src: BusAddr, message: Message) -> Envelope {
-    let type_id = 0xAA;
-    Envelope {
-        src,
-        type_id,
-        message,
-    }
 }
 
 /// An acknowledgement from this device, with this text.

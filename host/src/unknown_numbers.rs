@@ -73,7 +73,7 @@ fn wrong() -> Vec<CEnvelope> {
     ]
 }
 
-fn env(src: BusAddr, message: Message) -> Envelope {
+pub(crate) fn env(src: BusAddr, message: Message) -> Envelope {
     let type_id = 0xAA;
     Envelope {
         src,

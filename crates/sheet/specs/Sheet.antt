@@ -65,12 +65,12 @@ abbrev pub placed : List ℕ → ℕ → List ℕ → List ℕ
 placed text at buf = take at buf ++ text ++ drop (at + length text) buf
 
 -- what is answered: how many bytes are written, or the refusal
-abbrev pub count_by : Result (Unit {0}) SheetRefusal → ℕ → Result ℕ SheetRefusal
-count_by (Ok u) n = Ok n
-count_by (Err r) n = Err r
+abbrev pub counted : Result (Unit {0}) SheetRefusal → ℕ → Result ℕ SheetRefusal
+counted (Ok u) n = Ok n
+counted (Err r) n = Err r
 
 abbrev pub answered : List ℕ → ℕ → List ℕ → Result ℕ SheetRefusal
-answered text at buf = count_by (sheet_outcome text at buf) (length text)
+answered text at buf = counted (sheet_outcome text at buf) (length text)
 
 -- the buffer then: where it is refused, as it was
 abbrev pub buffer_by : Result (Unit {0}) SheetRefusal → List ℕ → List ℕ → List ℕ

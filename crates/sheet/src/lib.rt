@@ -76,7 +76,8 @@ impl How {
         }
     }
 
-    fn letter(self) -> u8
+    /// Its letter: R, N or K.
+    pub fn letter(self) -> u8
         ensures { result ≡ how_letter self }
     {
         match self {

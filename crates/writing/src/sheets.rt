@@ -1,22 +1,8 @@
 // Writes the ticks that a start-up keeps, and what a call for its sheet answers.
-ghost use Rattle.std.specs.Prelude.{◌≡◌};
-ghost use Rattle.sheet.specs.Sheet.{how_letter};
-
 use crate::write;
-use sheet::{How, SheetRefusal, Ticks};
+use sheet::{SheetRefusal, Ticks};
 use std::io;
 use std::io::Write;
-
-// How an entry was ticked, as a sheet has it.
-fn letter(how: How) -> u8
-    ensures { result ≡ how_letter how }
-{
-    match how {
-        How::Reply => b'R',
-        How::Nack => b'N',
-        How::Check => b'K',
-    }
-}
 
 // The reading and the letter of each tick.
 pub fn ticks<W: Write>(out: &mut W, ticks: &Ticks) -> io::Result<()> {
@@ -27,7 +13,7 @@ pub fn ticks<W: Write>(out: &mut W, ticks: &Ticks) -> io::Result<()> {
     let mut before = " ticks=";
     for tick in kept {
         write!(out, "{before}{}", tick.reading)?;
-        out.write_all(&[letter(tick.how)])?;
+        out.write_all(&[tick.how.letter()])?;
         before = ",";
     }
     Ok(())
