@@ -12,15 +12,16 @@ use Rattle.sequence.specs.declared.Answer.{Answer}
 use Rattle.sequence.specs.Rows.{judged, refused}
 use Rattle.settings.specs.declared.AvrSettings.{AvrSettings}
 use Rattle.settings.specs.Settings.{mode_only, kept}
+use Rattle.settings.specs.Repeats.{counted, repeats}
 use Rattle.avr_config_steps.specs.declared.AvrConfigStep.{AvrConfigStep}
 use Rattle.avr_config_steps.specs.declared.AvrConfigStep.TheVariants.{WaitInitGateAck}
 use Rattle.avr_config_steps.specs.Table.{commit}
 use Rattle.avr_config_steps.specs.Answers as steps
 use Rattle.avr_config.specs.declared.AvrConfigSequencer.{AvrConfigSequencer}
 
--- 4: a settings list of more than 32 parameters
+-- 4: a settings list of more than 32 parameters; 6: an id occurs twice among those that count
 abbrev pub settings_refusals : AvrSettings → List Applies
-settings_refusals s = applies 4 (ltb 32 s.len) ∷ []
+settings_refusals s = applies 4 (ltb 32 s.len) ∷ applies 6 (repeats (counted s)) ∷ []
 
 -- what is run: the settings as they are stored; beside a refusal mode 0, no parameters and no calibration
 abbrev pub running : AvrSettings → AvrSettings

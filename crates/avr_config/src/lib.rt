@@ -4,7 +4,9 @@
 
 ghost use Rattle.std.specs.Prelude.{◌≡◌, []};
 ghost use Rattle.avr_config_steps.specs.declared.AvrConfigStep.{AvrConfigStep};
-ghost use Rattle.avr_config.specs.Answers.{begun, fed_to};
+ghost use Rattle.protocol.specs.Refusals.{outcome, lowest};
+ghost use Rattle.avr_config.specs.Answers.{begun, fed_to, settings_refusals};
+ghost use Rattle.avr_config.specs.Starts.{LowestGiven, MevoBegins};
 
 use avr_config_steps::AvrConfigStep;
 use protocol::{BusAddr, Message, Refusal};
@@ -18,6 +20,19 @@ pub struct AvrConfigSequencer {
     pub settings: AvrSettings,
 }
 
+// Why these settings are not run, if they are not.
+fn accept_settings(settings: AvrSettings) -> Result<(), Refusal>
+    ensures { result ≡ outcome (lowest (settings_refusals settings)) }
+{
+    if MAX_PARAMS < settings.len {
+        return Err(Refusal::TooManyParams);
+    }
+    if settings.has_repeat() {
+        return Err(Refusal::RepeatedParam);
+    }
+    Ok(())
+}
+
 impl AvrConfigSequencer {
     // At its first step.
     fn with(settings: AvrSettings) -> AvrConfigSequencer
@@ -29,13 +44,14 @@ impl AvrConfigSequencer {
         }
     }
 
-    // Refused where the settings have too many parameters: beside the refusal stands a run with mode 0, no parameters and no calibration.
+    /// Refused with 4 where the settings have more than 32 parameters, and with 6 where an id occurs twice among those that count. Beside a
+    /// refusal stands a run with mode 0, no parameters and no calibration. (src/seq.rs refuses neither.)
     pub fn new(settings: AvrSettings) -> Answer<AvrConfigSequencer>
         ensures { result ≡ begun settings }
     {
-        if MAX_PARAMS < settings.len {
+        if let Err(refusal) = accept_settings(settings) {
             let none = AvrConfigSequencer::with(AvrSettings::mode_only(0));
-            return Answer::refused(Refusal::TooManyParams, none);
+            return Answer::refused(refusal, none);
         }
         let run = AvrConfigSequencer::with(settings.kept());
         Answer::accepted(Some(avr_config_cmd(false)), run)
@@ -69,3 +85,13 @@ impl AvrConfigSequencer {
         )
     }
 }
+
+/// Of the numbers that apply to a start the lowest is given, and none where none applies.
+pub fn lowest_number()
+    ensures { LowestGiven }
+{}
+
+/// A settings run of a Mevo's settings begins: no such start is refused.
+pub fn mevo_begins()
+    ensures { MevoBegins }
+{}

@@ -1,16 +1,17 @@
--- The theorem at work: a run with a parameter and a calibration, and one after a refused start, in which every part of it is read. A weaker
--- theorem would not give these.
+-- The theorems at work: a run with a parameter and a calibration, two after refused starts, and one of settings that no start accepts, in
+-- which every part is read. A weaker theorem would not give these.
 -- Assumes nothing.
 use Prim.Native.Nat.{ℕ}
 use mathlib.Core.Path.{◌≡◌, refl, sym, ap}
 use mathlib.Core.Bool.{true≢false}
 use mathlib.Core.List.{List, [], ◌∷◌, ◌++◌}
-use Rattle.std.specs.Prelude.{Some}
+use Rattle.std.specs.Prelude.{true, Some, Err}
 use lib.IntN.{ℤ}
 use lib.ListN.{replicate}
 use Rattle.protocol.specs.declared.BusAddr.{BusAddr}
 use Rattle.protocol.specs.declared.ParamData.{ParamData}
 use Rattle.protocol.specs.declared.Message.{Message}
+use Rattle.protocol.specs.declared.Refusal.{Refusal}
 use Rattle.matching.specs.Promise.{after_all, events, Matched}
 use Rattle.matching.proofs.Called.{run_rises}
 use Rattle.matching.proofs.Machine.{leftmost}
@@ -19,12 +20,14 @@ use Rattle.sequence.specs.Events.{checked, reading, plain}
 use Rattle.sequence.specs.Calls.{Fed, Untimed, fed_event}
 use Rattle.settings.specs.declared.AvrSettings.{AvrSettings}
 use Rattle.settings.specs.Settings.{no_param}
+use Rattle.settings.specs.Repeats.{counted, repeats}
 use Rattle.avr_config_steps.specs.declared.AvrConfigStep.{AvrConfigStep}
 use Rattle.avr_config_steps.specs.Table.{table}
 use Rattle.avr_config.specs.declared.AvrConfigSequencer.{AvrConfigSequencer}
 use Rattle.avr_config.specs.Answers.{running, begun}
 use Rattle.avr_config.specs.Calls.{after}
-use Rattle.avr_config_runs.proofs.Whole.{anti, sequencer, is_done, right}
+use Rattle.avr_config_runs.specs.Going.{running_on}
+use Rattle.avr_config_runs.proofs.Whole.{anti, sequencer, is_done, going, right}
 
 -- n parameters count, and there is a calibration
 abbrev settings : ℕ → AvrSettings
@@ -91,3 +94,26 @@ done_after_refusal = (right (settings 33) short).done.1 (places (settings 33) sh
 
 pub ticked_after_refusal : Off (settings 33) short
 ticked_after_refusal = (right (settings 33) short).done.0 refl
+
+-- ---- the same after a start that is refused with 6: of three parameters the second and the third have one id, which is 0
+
+pub refused_with_6 : (begun (settings 3)).outcome ≡ Err Refusal.RepeatedParam
+refused_with_6 = refl
+
+pub done_after_a_repeat : (state (settings 3) short).step ≡ AvrConfigStep.Done
+done_after_a_repeat = (right (settings 3) short).done.1 (places (settings 3) short, leftmost_matching {r = events reading fed_event 0 short} refl)
+
+-- ---- a run that holds these settings all the same goes on: eleven entries
+
+abbrev held : List Fed
+held =
+    ack BusAddr.Avr 0 ∷ ack BusAddr.Avr 1 ∷ ack BusAddr.Avr 2 ∷ ack BusAddr.Avr 3 ∷ ack BusAddr.Avr 4 ∷ ack BusAddr.Avr 5 ∷ ack BusAddr.Avr 6
+    ∷ mode 9 ∷ ack BusAddr.Avr 7 ∷ cal ∷ ack BusAddr.Avr 8 ∷ []
+
+pub repeats_still : repeats (counted (settings 3)) ≡ true
+repeats_still = refl
+
+pub goes_on : (after_all after (running_on (settings 3)) held).step ≡ AvrConfigStep.Done
+goes_on =
+    (going (settings 3) held).done.1
+    (leftmost reading (table (settings 3)) (events reading fed_event 0 held), leftmost_matching {r = events reading fed_event 0 held} refl)

@@ -29,6 +29,7 @@ use Rattle.avr_config.specs.declared.AvrConfigSequencer.{AvrConfigSequencer}
 use Rattle.avr_config.specs.Answers.{running, advance}
 use Rattle.avr_config.specs.Calls.{after}
 use Rattle.avr_config_runs.specs.Theorem.{Theorem}
+use Rattle.avr_config_runs.specs.Going.{Going}
 
 abbrev pub is_done : AvrConfigStep → Bool
 is_done WaitInitGateAck = false
@@ -132,8 +133,12 @@ module _ (q : AvrSettings) where
   pub sequencer : Called reading (table q) after fed_event (fed.state_of (row q) (next q) Done (steps_for q) tt view unview seq advance refused after) (λ es t x c. tt)
   sequencer = fed.sequencer (row q) (next q) Done (steps_for q) tt view unview seq advance refused after feeds
 
-pub right : Theorem
-right s cs =
-    let q = running s in
+-- of any settings that a state may hold
+pub going : Going
+going q cs =
     fed.ends (row q) (next q) Done (steps_for q) tt view (unview q) (seq q) advance refused after (feeds q) is_done refl
     (refl, params_others q (count q.len) 0) (λ z. z.step) (λ es z. refl) cs
+
+-- of those that new leaves
+pub right : Theorem
+right s cs = going (running s) cs

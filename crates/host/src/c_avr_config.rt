@@ -57,7 +57,7 @@ pub extern "C" fn wigtalom_mevo_settings(
     AvrSettings::from(settings).into()
 }
 
-// A count above 32 is told before a format that there is not.
+// A count above 32 is told before a format that there is not. Whether an id occurs twice is asked of settings, and so after both.
 #[unsafe(no_mangle)]
 pub extern "C" fn wigtalom_avr_config_new(settings: CSettings) -> CAvrConfigFed
     ensures { result ≡ avr_config_new settings }

@@ -6,7 +6,7 @@ use mathlib.Core.List.{List, [], ◌∷◌}
 use Prim.Native.Nat.{ℕ, ◌≤◌}
 use native.Mathlib.Nat.{le_refl, le_trans, le_of_lt}
 use Rattle.protocol.specs.declared.Refusal.{Refusal}
-use Rattle.protocol.specs.declared.Refusal.TheVariants.{TextTooLong, PayloadTooLong, ReadingTooLarge, TooManyParams, ReadingBelowLast, NotDone, RetriesFull}
+use Rattle.protocol.specs.declared.Refusal.TheVariants.{TextTooLong, PayloadTooLong, ReadingTooLarge, TooManyParams, RepeatedParam, ReadingBelowLast, NotDone, RetriesFull}
 use Rattle.std.specs.Prelude.{Err}
 use Rattle.protocol.specs.Refusals.{number, outcome, Applies, lowest}
 pub use Rattle.protocol.specs.Lowest.{Listed, here, there, Rises, end, then}
@@ -17,6 +17,7 @@ outcome-number TextTooLong = refl
 outcome-number PayloadTooLong = refl
 outcome-number ReadingTooLarge = refl
 outcome-number TooManyParams = refl
+outcome-number RepeatedParam = refl
 outcome-number ReadingBelowLast = refl
 outcome-number NotDone = refl
 outcome-number RetriesFull = refl

@@ -2,7 +2,7 @@
 -- Assumes nothing.
 use Rattle.std.specs.Prelude.{ℕ, Bool, cond, List, [], ◌∷◌, eqb, Result, Ok, Err}
 use Rattle.protocol.specs.declared.Refusal.{Refusal}
-use Rattle.protocol.specs.declared.Refusal.TheVariants.{TextTooLong, PayloadTooLong, ReadingTooLarge, TooManyParams, ReadingBelowLast, NotDone, RetriesFull}
+use Rattle.protocol.specs.declared.Refusal.TheVariants.{TextTooLong, PayloadTooLong, ReadingTooLarge, TooManyParams, RepeatedParam, ReadingBelowLast, NotDone, RetriesFull}
 
 abbrev pub number : Refusal → ℕ
 -- a feed whose text exceeds 256 bytes
@@ -13,6 +13,8 @@ number PayloadTooLong = 2
 number ReadingTooLarge = 3
 -- a settings list of more than 32 parameters
 number TooManyParams = 4
+-- a settings list with an id that occurs twice
+number RepeatedParam = 6
 -- a reading below the last accepted one
 number ReadingBelowLast = 11
 -- a result asked for before Done
@@ -22,7 +24,7 @@ number RetriesFull = 13
 
 -- every refusal there is
 abbrev pub refusals : List Refusal
-refusals = TextTooLong ∷ PayloadTooLong ∷ ReadingTooLarge ∷ TooManyParams ∷ ReadingBelowLast ∷ NotDone ∷ RetriesFull ∷ []
+refusals = TextTooLong ∷ PayloadTooLong ∷ ReadingTooLarge ∷ TooManyParams ∷ RepeatedParam ∷ ReadingBelowLast ∷ NotDone ∷ RetriesFull ∷ []
 
 -- refused with the first of rs that has the number n; accepted if none has
 abbrev pub among : List Refusal → ℕ → Result (Unit {0}) Refusal

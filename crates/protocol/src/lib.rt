@@ -42,6 +42,7 @@ pub enum Refusal {
     PayloadTooLong = 2,
     ReadingTooLarge = 3,
     TooManyParams = 4,
+    RepeatedParam = 6,
     ReadingBelowLast = 11,
     NotDone = 12,
     RetriesFull = 13,

@@ -1,1 +1,2 @@
 pub mod Settings
+pub mod Repeats

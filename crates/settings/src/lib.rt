@@ -6,6 +6,8 @@ ghost use Rattle.settings.specs.Settings.{mode_only, mevo_params, from_mevo, kep
 
 use protocol::{ParamData, ParamValue, RadarCal};
 
+pub mod repeats;
+
 // The most parameters of a settings list.
 pub const MAX_PARAMS: usize = 32;
 

@@ -20,11 +20,12 @@ pub enum Sequence {
 pub struct Step(pub &'static str, pub &'static str);
 
 // All of them: oracle/tests/show.rs holds this to the enum.
-const REFUSALS: [Refusal; 7] = [
+const REFUSALS: [Refusal; 8] = [
     Refusal::TextTooLong,
     Refusal::PayloadTooLong,
     Refusal::ReadingTooLarge,
     Refusal::TooManyParams,
+    Refusal::RepeatedParam,
     Refusal::ReadingBelowLast,
     Refusal::NotDone,
     Refusal::RetriesFull,
@@ -199,6 +200,7 @@ impl fmt::Display for Reason {
             Refusal::PayloadTooLong => "the payload has more than 256 bytes",
             Refusal::ReadingTooLarge => "the reading is above 18446744071709551615 ns",
             Refusal::TooManyParams => "the settings have more than 32 parameters",
+            Refusal::RepeatedParam => "an id occurs twice among the settings' parameters",
             Refusal::ReadingBelowLast => "the reading is below the last accepted one",
             Refusal::NotDone => "the result is asked for before Done",
             Refusal::RetriesFull => "the arm would count a nack while retries is 65535",
