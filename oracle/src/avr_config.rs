@@ -12,7 +12,8 @@ use crate::write;
 /// Writes the answer. Where the start is refused, an empty run runs.
 pub fn begin(settings: &Settings, base: Instant, out: &mut String) -> Run<AvrConfigSequencer> {
     let settings = avr_settings(settings);
-    if let Some(number) = refusal::of_settings(settings.params.len()) {
+    let ids = settings.params.iter().map(|param| param.param_id);
+    if let Some(number) = refusal::of_settings(ids) {
         let (seq, _) = AvrConfigSequencer::new(empty());
         return Run::begin_refused(number, seq, base, out);
     }

@@ -1,6 +1,8 @@
 //! The numbers with which a call is declined, from docs/SCOPE.md,
 //! "Refusals" and "Sheet".
 
+use std::collections::HashSet;
+
 /// The most bytes of a text or a payload.
 pub const LONGEST: usize = 256;
 
@@ -35,9 +37,15 @@ pub const NOT_DONE: u8 = 12;
 /// The most parameters of a settings list.
 pub const MOST_PARAMS: usize = 32;
 
-/// The number of a settings list with so many parameters.
-pub fn of_settings(params: usize) -> Option<u8> {
-    (params > MOST_PARAMS).then_some(4)
+/// The lowest number that applies to a settings list whose parameters have
+/// these ids: there are too many, or one id occurs twice.
+pub fn of_settings(ids: impl ExactSizeIterator<Item = u8>) -> Option<u8> {
+    let params = ids.len();
+    if params > MOST_PARAMS {
+        return Some(4);
+    }
+    let different: HashSet<u8> = ids.collect();
+    (different.len() < params).then_some(6)
 }
 
 /// A sheet asked for where the part of the buffer is shorter, or the place

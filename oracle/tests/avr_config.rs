@@ -105,7 +105,7 @@ fn settings_of_a_mevo() {
     check_made(&pairs);
 }
 
-/// Sent with the same bits, and an id may occur again.
+/// Sent with the same bits.
 #[test]
 fn values() {
     let values = [
@@ -120,8 +120,9 @@ fn values() {
         "float40=0x7FEFFFFFFFFFFFFF",
         "float40=0x7FF0000000000000",
         "float40=0xFFF0000000000000",
-    ]
-    .map(|value| format!("param_id=0xA7 {value}"));
+    ];
+    let with_id = |(place, value)| format!("param_id=0xA{place:X} {value}");
+    let values: Vec<String> = values.iter().enumerate().map(with_id).collect();
     let mut pairs = vec![begun(&format!("avr_config mode=1 {}", values.join(" ")))];
     for (index, value) in values.iter().enumerate() {
         pairs.extend(param(index, value));
@@ -280,19 +281,101 @@ fn sends() {
 }
 
 /// Refused, an empty run runs, whatever ran before and was asked for.
+fn refused(number: u8, params: &str) {
+    let line = format!("avr_config mode=9{params} range_mm=1 height_mm=1");
+    let mut pairs = vec![
+        begun("mode_only mode=7"),
+        pair(
+            &line,
+            &format!("refused {number}; no send; WaitInitGateAck"),
+        ),
+    ];
+    pairs.extend(mode(0));
+    pairs.push(pair(ACK, "accepted; no send; Done"));
+    pairs.push(begun(&format!("avr_config mode=9{}", self::params(32))));
+    check_made(&pairs);
+}
+
 #[test]
 fn too_many_parameters() {
     for count in [33, 34, 100] {
-        let line = format!("avr_config mode=9{} range_mm=1 height_mm=1", params(count));
-        let mut pairs = vec![
-            begun("mode_only mode=7"),
-            pair(&line, "refused 4; no send; WaitInitGateAck"),
-        ];
-        pairs.extend(mode(0));
-        pairs.push(pair(ACK, "accepted; no send; Done"));
-        pairs.push(begun(&format!("avr_config mode=9{}", params(32))));
-        check_made(&pairs);
+        refused(4, &params(count));
     }
+}
+
+/// Parameters with these ids, each with its place as the value.
+fn with_ids(ids: &[u8]) -> String {
+    let param = |(place, id)| format!(" param_id={id} int24={place}");
+    ids.iter().enumerate().map(param).collect()
+}
+
+/// Wherever the two places are, and whatever stands there.
+#[test]
+fn an_id_twice() {
+    for ids in [
+        &[6, 6][..],
+        &[0, 0],
+        &[255, 255],
+        &[6, 0, 0],
+        &[6, 6, 0],
+        &[6, 38, 6],
+        &[6, 38, 15, 0, 1, 6],
+        &[1, 6, 38, 6, 15],
+        &[6, 6, 6],
+        &[6, 38, 6, 38],
+        &[6; 32],
+    ] {
+        refused(6, &with_ids(ids));
+    }
+    for (one, other) in [(0, 31), (0, 1), (30, 31), (15, 16), (1, 30)] {
+        let mut ids: Vec<u8> = (0..32).collect();
+        ids[other] = ids[one];
+        refused(6, &with_ids(&ids));
+    }
+    let (integer, float) = (
+        "param_id=6 int24=1",
+        "param_id=0x06 float40=0x3FF0000000000000",
+    );
+    for (one, other) in [
+        (integer, integer),
+        (float, float),
+        (integer, float),
+        (float, integer),
+    ] {
+        refused(6, &format!(" {one} {other}"));
+        refused(6, &format!(" {one} param_id=7 int24=1 {other}"));
+    }
+    let zero = "param_id=6 float40=0x0000000000000000";
+    refused(6, &format!(" {zero} {}", zero.replace("0x0", "0x8")));
+}
+
+/// Where there are too many as well, the lowest number is given.
+#[test]
+fn an_id_twice_among_too_many() {
+    for (one, other) in [(0, 1), (0, 31), (31, 32), (0, 32), (5, 20)] {
+        let mut ids: Vec<u8> = (0..33).collect();
+        ids[other] = ids[one];
+        refused(4, &with_ids(&ids));
+    }
+    refused(4, &with_ids(&[0; 33]));
+    let ids: Vec<u8> = (0..40).chain(35..40).collect();
+    refused(4, &with_ids(&ids));
+}
+
+/// Other ids with the same value, an id that is the mode's number, and one
+/// that the run before it had.
+#[test]
+fn no_id_twice() {
+    let same = " param_id=6 int24=9 param_id=0x60 int24=9 param_id=9 int24=9 param_id=0 int24=9";
+    let line = format!("avr_config mode=9{same}");
+    let mut pairs = vec![begun(&line), begun(&line)];
+    for (index, id) in ["0x06", "0x60", "0x09", "0x00"].iter().enumerate() {
+        pairs.extend(param(index, &format!("param_id={id} int24=9")));
+    }
+    pairs.extend(mode(9));
+    pairs.push(pair(ACK, "accepted; no send; Done"));
+    check_made(&pairs);
+    check_made(&[begun(&format!("avr_config mode=9{}", params(32)))]);
 }
 
 /// It has no clock: readings may fall, and have no limit.
@@ -329,9 +412,12 @@ fn states() {
     let list = format!(
         "avr_config mode=9 param_id=6 int24=1 param_id=0x26 float40=0x3FA3A92A30553261 \
         range_mm=2438 height_mm=25\n{ACK}\nfeed 1 Avr 1 Other text={long}\nbad\n\
-        mode_only mode=8\navr_config mode=7 param_id=1 int24=-1\navr_config mode=7{many}\n",
+        mode_only mode=8\navr_config mode=7 param_id=1 int24=-1\navr_config mode=7{many}\n\
+        avr_config mode=7 param_id=1 int24=-1\navr_config mode=7{twice} range_mm=1 height_mm=1\n\
+        {ACK}\n",
         long = "00".repeat(257),
         many = params(33),
+        twice = with_ids(&[1, 2, 1]),
     );
     let first = "mode=9 params=2 param_id=0x06 int24=1 param_id=0x26 \
         float40=0x3FA3A92A30553261 radar_cal=range_mm=2438 height_mm=25";
@@ -344,6 +430,9 @@ fn states() {
             "4: bad line at column 1: unknown call: docs/REPLAY.md names them all",
             "mode=8 params=0 radar_cal=none",
             "mode=7 params=1 param_id=0x01 int24=-1 radar_cal=none",
+            "mode=0 params=0 radar_cal=none",
+            "mode=7 params=1 param_id=0x01 int24=-1 radar_cal=none",
+            "mode=0 params=0 radar_cal=none",
             "mode=0 params=0 radar_cal=none",
         ],
     );

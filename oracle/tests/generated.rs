@@ -7,9 +7,11 @@ use oracle::compare::{LIST_LINES, LONG_ARM_CALLS, List, Source, front_answers, s
 use oracle::coverage::Coverage;
 use oracle::front;
 use oracle::generate::{LEANINGS, LONG_ARM, Leaning, RIGS, Random, device_info};
-use oracle::list::{self, Begin, Call, Which};
+use oracle::list::{self, Begin, Call, Settings, Which};
 use oracle::model::{Model, has};
+use oracle::protocol::config::{ParamData, ParamValue};
 use oracle::protocol::handshake::DeviceModel;
+use oracle::refusal;
 
 #[test]
 fn the_same_seed_gives_the_same_list() {
@@ -163,6 +165,76 @@ fn a_long_arm() {
     let mut source = Source::of_calls(LONG_ARM_CALLS - 1, 5, LONG_ARM, false);
     assert!(source.list(LIST_LINES, LONG_ARM_CALLS).lines.len() < 21_000);
     assert!(!source.coverage.long_arm);
+}
+
+/// The parameters of each settings list among so many calls.
+fn settings_lists(calls: u64) -> Vec<Vec<ParamValue>> {
+    let settings = LEANINGS.into_iter().find(|l| l.which == Which::AvrConfig);
+    let list = Source::new(8, settings.unwrap(), false).list(usize::MAX, calls);
+    let given = |line: &String| match list::read(line.as_bytes(), None) {
+        Ok(Some(Call::Begin(Begin::AvrConfig(Settings::Given(given))))) => Some(given.params),
+        _ => None,
+    };
+    list.lines.iter().filter_map(given).collect()
+}
+
+/// What else is asked of two places at which an id stands.
+type Asked = fn(&[ParamValue], usize, usize) -> bool;
+
+fn twice(params: &[ParamValue], asked: Asked) -> bool {
+    let same = |one: usize, other: usize| params[one].param_id == params[other].param_id;
+    let found = |one, other| same(one, other) && asked(params, one, other);
+    (0..params.len()).any(|other| (0..other).any(|one| found(one, other)))
+}
+
+fn value(params: &[ParamValue], place: usize) -> String {
+    format!("{:?}", params[place].value)
+}
+
+fn is_float(params: &[ParamValue], place: usize) -> bool {
+    matches!(params[place].value, ParamData::Float40(_))
+}
+
+/// Rules that lie near, and are wrong.
+const WRONG: [(&str, Asked); 7] = [
+    ("none", |_, _, _| false),
+    ("neighbours only", |_, a, b| b == a + 1),
+    ("no neighbours", |_, a, b| b != a + 1),
+    ("id 0 overlooked", |params, a, _| params[a].param_id != 0),
+    ("the last one overlooked", |params, _, b| {
+        b + 1 < params.len()
+    }),
+    ("the value compared, too", |params, a, b| {
+        value(params, a) == value(params, b)
+    }),
+    ("the kind compared, too", |params, a, b| {
+        is_float(params, a) == is_float(params, b)
+    }),
+];
+
+/// Each is told from the right one by some lists, and so is 6 before 4. Most
+/// lists are accepted.
+#[test]
+fn wrong_rules_for_an_id_twice() {
+    let lists = settings_lists(50_000);
+    let of = |params: &[ParamValue]| refusal::of_settings(params.iter().map(|p| p.param_id));
+    let refused = |number| lists.iter().filter(|params| of(params) == number).count();
+    let (accepted, six) = (refused(None), refused(Some(6)));
+    assert!(six > 50 && accepted > 6 * six && accepted > 3 * refused(Some(4)));
+    let short = |params: &&Vec<ParamValue>| params.len() <= 32;
+    let found = |asked| {
+        lists
+            .iter()
+            .filter(short)
+            .filter(|p| twice(p, asked))
+            .count()
+    };
+    assert_eq!(found(|_, _, _| true), six);
+    for (name, asked) in WRONG {
+        assert!(found(asked) + 10 < six, "{name}: {} of {six}", found(asked));
+    }
+    let long = lists.iter().filter(|params| !short(params));
+    assert!(long.filter(|params| twice(params, |_, _, _| true)).count() > 10);
 }
 
 /// Sheets are among what is broken: some can still be read, others can't.

@@ -188,6 +188,10 @@ fn refusals_in_words() {
             "5: the part is shorter than the sheet, or the place is past the buffer's end",
         ),
         (
+            "avr_config mode=1 param_id=1 int24=2 param_id=1 int24=3\n".to_string(),
+            "6: an id occurs twice among the settings' parameters",
+        ),
+        (
             "dsp\ncheck 5\ncheck 4\n".to_string(),
             "11: the reading is below the last accepted one",
         ),
@@ -596,7 +600,7 @@ fn stored() {
     assert!(trials + &both == repository("crates/trials/stdout"));
     assert!(both.lines().all(|line| columns(line) <= 100));
     // Every refusal but 13, which takes 65,536 nacks.
-    for number in ["1:", "2:", "3:", "4:", "5:", "11:", "12:"] {
+    for number in ["1:", "2:", "3:", "4:", "5:", "6:", "11:", "12:"] {
         assert!(both.contains(&format!("    refused {number}")), "{number}");
     }
     assert!(answers(&odd, false).lines().count() > 80);

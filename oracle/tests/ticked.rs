@@ -74,7 +74,8 @@ fn of_a_repoll() {
 /// The entries of a settings run with so many parameters.
 fn of_settings(params: usize, calibration: &str, last: usize) {
     let ack = "feed 0 Avr 1 ConfigAck bus_addr=0 acked_cmd=0\n";
-    let params = " param_id=1 int24=2".repeat(params);
+    let param = |id| format!(" param_id={id} int24=2");
+    let params: String = (0..params).map(param).collect();
     let begin = format!("avr_config mode=1{params}{calibration}\n");
     let echoes = "feed 0 Avr 1 ModeSet mode=0\nfeed 0 Avr 1 RadarCal range_mm=0 height_mm=0\n";
     let list = begin + &format!("{ack}{echoes}").repeat(last);

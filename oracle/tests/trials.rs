@@ -142,15 +142,16 @@ fn radar_cal() -> RadarCal {
     }
 }
 
-/// The sends of a whole settings run: every reply is fed until it is done.
-fn settings_sends(params: usize, radar_cal: Option<RadarCal>) -> usize {
-    let param = |id| ParamValue {
-        param_id: id as u8,
+/// The sends of a whole settings run of parameters with these ids: every reply
+/// is fed until it is done.
+fn settings_sends(ids: impl Iterator<Item = u8>, radar_cal: Option<RadarCal>) -> usize {
+    let param = |param_id| ParamValue {
+        param_id,
         value: ParamData::Int24(1),
     };
     let (mut seq, first) = AvrConfigSequencer::new(AvrSettings {
         mode: 9,
-        params: (0..params).map(param).collect(),
+        params: ids.map(param).collect(),
         radar_cal,
     });
     let mode = Message::ModeSet(ModeSet { mode: 9 });
@@ -165,12 +166,24 @@ fn settings_sends(params: usize, radar_cal: Option<RadarCal>) -> usize {
 
 #[test]
 fn sends_of_a_settings_run() {
-    assert_eq!(settings_sends(0, None), 3);
-    assert_eq!(settings_sends(32, Some(radar_cal())), 69);
-    // The Rust takes any number of parameters.
-    assert_eq!(settings_sends(33, Some(radar_cal())), 71);
-    assert_eq!(refusal::of_settings(32), None);
-    assert_eq!(refusal::of_settings(33), Some(4));
+    assert_eq!(settings_sends(0..0, None), 3);
+    assert_eq!(settings_sends(0..32, Some(radar_cal())), 69);
+    // The Rust takes any number of parameters, and each id as often as it comes.
+    assert_eq!(settings_sends(0..33, Some(radar_cal())), 71);
+    assert_eq!(settings_sends([6, 6].into_iter(), None), 7);
+}
+
+#[test]
+fn refused_settings() {
+    let refused = |ids: &[u8]| refusal::of_settings(ids.iter().copied());
+    assert_eq!(refusal::of_settings(0..0), None);
+    assert_eq!(refusal::of_settings(0..32), None);
+    assert_eq!(refusal::of_settings(0..33), Some(4));
+    assert_eq!(refused(&[6, 0]), None);
+    for ids in [&[6, 6][..], &[0, 0], &[6, 0, 0], &[6, 38, 15, 6], &[1; 32]] {
+        assert_eq!(refused(ids), Some(6), "{ids:?}");
+    }
+    assert_eq!(refused(&[1; 33]), Some(4));
 }
 
 /// Whether a Xi at the last step is armed by a text.

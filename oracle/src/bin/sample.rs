@@ -12,11 +12,13 @@ use oracle::protocol::handshake::DeviceModel;
 
 const USAGE: &str = "usage: sample FILE";
 /// One with which so few calls meet everything.
-const SEED: u64 = 64;
+const SEED: u64 = 990;
 /// A byte order mark, which is taken as nothing.
 const MARK: char = '\u{FEFF}';
-/// Of each sequence and model.
+/// Of each sequence and model, but a settings run's.
 const GOOD_CALLS: u64 = 1_100;
+/// A settings run begins seldom, and in many ways.
+const SETTINGS_CALLS: u64 = 2_200;
 const CALLS_BETWEEN_BAD_LINES: u64 = 1_500;
 /// A list of its has the words of all sequences.
 const WITH_BAD_LINES: Leaning = leaning(Which::Arm, DeviceModel::Mevo);
@@ -49,7 +51,11 @@ fn sample(file: &Path) -> io::Result<Vec<String>> {
     let mut missing = source.written_left().to_vec();
     for leaning in LEANINGS {
         let mut source = Source::new(SEED, leaning, false);
-        lines.extend(source.list(usize::MAX, GOOD_CALLS).lines);
+        let calls = match leaning.which {
+            Which::AvrConfig => SETTINGS_CALLS,
+            _ => GOOD_CALLS,
+        };
+        lines.extend(source.list(usize::MAX, calls).lines);
     }
     let coverage = Coverage::of_list(&lines);
     missing.extend(coverage.missing(&Which::ALL));

@@ -6,6 +6,8 @@ use super::tables::{Event, Row, any};
 use crate::addr::BusAddr;
 use crate::list::{Feed, Settings};
 use crate::protocol::Message;
+use crate::protocol::config::{ParamData, ParamValue};
+use crate::refusal::MOST_PARAMS;
 use crate::running::Fields;
 use crate::seq::AvrSettings;
 
@@ -44,7 +46,7 @@ pub const ROWS: [Row; 32] = [
     any("no tick: ParamValue for an ack"),
 ];
 
-pub const ANSWERS: [&str; 18] = [
+pub const ANSWERS: [&str; 29] = [
     "begun by avr_config",
     "begun by mode_only",
     "begun by mevo_settings",
@@ -54,12 +56,23 @@ pub const ANSWERS: [&str; 18] = [
     "begun with 3 to 30 parameters",
     "begun with 31 parameters",
     "begun with 32 parameters",
-    "begun with an id twice",
     "begun with calibration",
     "begun without calibration",
     "refused 4",
     "refused 4 of 33 parameters",
     "refused 4 of more parameters",
+    "refused 4, no id twice",
+    "refused 4, an id twice within 32",
+    "refused 4, an id twice past 32",
+    "refused 6",
+    "refused 6, at neighbours",
+    "refused 6, at the first and last",
+    "refused 6, further apart",
+    "refused 6, the same value",
+    "refused 6, another value",
+    "refused 6, another kind",
+    "refused 6, id 0",
+    "refused 6, at more than two places",
     "refused 1",
     "refused 2",
     "feed after Done",
@@ -67,17 +80,66 @@ pub const ANSWERS: [&str; 18] = [
 
 /// What a run was begun with, or why it wasn't.
 pub fn begun(settings: &Settings, outcome: &str) -> Vec<&'static str> {
-    match settings {
-        Settings::ModeOnly(_) => vec!["begun by mode_only"],
-        Settings::Mevo(_) => vec!["begun by mevo_settings"],
-        Settings::Given(settings) if outcome == "accepted" => with(settings),
-        Settings::Given(settings) => vec![
-            "refused 4",
-            match settings.params.len() {
-                33 => "refused 4 of 33 parameters",
-                _ => "refused 4 of more parameters",
-            },
-        ],
+    match (settings, outcome) {
+        (Settings::ModeOnly(_), _) => vec!["begun by mode_only"],
+        (Settings::Mevo(_), _) => vec!["begun by mevo_settings"],
+        (Settings::Given(settings), "accepted") => with(settings),
+        (Settings::Given(settings), "refused 4") => too_many(&settings.params),
+        (Settings::Given(settings), _) => repeated(&settings.params),
+    }
+}
+
+/// The places, from 0, at which parameters have the same id, two and two.
+fn pairs(params: &[ParamValue]) -> Vec<(usize, usize)> {
+    let two = |other| (0..other).map(move |one| (one, other));
+    let same = |&(one, other): &(usize, usize)| params[one].param_id == params[other].param_id;
+    (0..params.len()).flat_map(two).filter(same).collect()
+}
+
+fn too_many(params: &[ParamValue]) -> Vec<&'static str> {
+    let pairs = pairs(params);
+    let within = |(_, other): &(usize, usize)| *other < MOST_PARAMS;
+    vec![
+        "refused 4",
+        match params.len() {
+            33 => "refused 4 of 33 parameters",
+            _ => "refused 4 of more parameters",
+        },
+        match pairs.iter().any(within) {
+            true => "refused 4, an id twice within 32",
+            false if pairs.is_empty() => "refused 4, no id twice",
+            false => "refused 4, an id twice past 32",
+        },
+    ]
+}
+
+/// Where no more than two places have the same id, it is told which they are
+/// and what stands there.
+fn repeated(params: &[ParamValue]) -> Vec<&'static str> {
+    let [(one, other)] = pairs(params)[..] else {
+        return vec!["refused 6", "refused 6, at more than two places"];
+    };
+    let mut repeated = vec!["refused 6"];
+    repeated.push(match (one, other) {
+        _ if other == one + 1 => "refused 6, at neighbours",
+        (0, _) if other + 1 == params.len() => "refused 6, at the first and last",
+        _ => "refused 6, further apart",
+    });
+    repeated.push(match (&params[one].value, &params[other].value) {
+        (ParamData::Int24(a), ParamData::Int24(b)) => same_or_other(a == b),
+        (ParamData::Float40(a), ParamData::Float40(b)) => same_or_other(a.to_bits() == b.to_bits()),
+        _ => "refused 6, another kind",
+    });
+    if params[one].param_id == 0 {
+        repeated.push("refused 6, id 0");
+    }
+    repeated
+}
+
+fn same_or_other(same: bool) -> &'static str {
+    match same {
+        true => "refused 6, the same value",
+        false => "refused 6, another value",
     }
 }
 
@@ -95,11 +157,6 @@ fn with(settings: &AvrSettings) -> Vec<&'static str> {
         Some(_) => "begun with calibration",
         None => "begun without calibration",
     });
-    let mut ids: Vec<u8> = settings.params.iter().map(|param| param.param_id).collect();
-    ids.sort();
-    if ids.windows(2).any(|pair| pair[0] == pair[1]) {
-        begun.push("begun with an id twice");
-    }
     begun
 }
 

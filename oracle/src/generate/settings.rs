@@ -2,7 +2,7 @@
 
 use super::kinds::{self, Kind, Type, kind};
 use super::random::Random;
-use crate::refusal;
+use crate::refusal::{self, MOST_PARAMS};
 
 /// The fields of each word, those of `avr_config` with one parameter. They
 /// have no type id.
@@ -59,25 +59,98 @@ fn mevo(random: &mut Random) -> Vec<String> {
     words
 }
 
+/// A parameter before it is written.
+struct Param {
+    id: u8,
+    value: String,
+}
+
 fn given(random: &mut Random) -> (Vec<String>, u64) {
-    let params = count(random);
+    let params = params(random);
     let mut words = vec!["avr_config".to_string(), field(random, "mode", Type::U8)];
-    let id = kinds::value(random, Type::U8);
-    let same = random.chance(10);
-    for _ in 0..params {
-        let repeated = same || random.chance(10);
-        words.push(match repeated {
-            true => format!("param_id={id}"),
-            false => field(random, "param_id", Type::U8),
-        });
-        words.push(value(random));
+    for Param { id, value } in &params {
+        words.push(format!("param_id={}", kinds::number(random, *id)));
+        words.push(value.clone());
     }
     if random.chance(50) {
         words.push(field(random, "range_mm", Type::U16));
         words.push(field(random, "height_mm", Type::U8));
     }
-    let refused = refusal::of_settings(params as usize).is_some();
-    (words, if refused { 0 } else { params })
+    let refused = refusal::of_settings(params.iter().map(|param| param.id)).is_some();
+    (words, if refused { 0 } else { params.len() as u64 })
+}
+
+/// Each with an id of its own, as a rule.
+fn params(random: &mut Random) -> Vec<Param> {
+    let mut params = Vec::new();
+    for _ in 0..count(random) {
+        let (id, value) = (other_id(random, &params), value(random));
+        params.push(Param { id, value });
+    }
+    let percent = match params.len() {
+        0 | 1 => 0,
+        2 => 5,
+        3..=MOST_PARAMS => 20,
+        _ => 50,
+    };
+    if random.chance(percent) {
+        repeat(random, &mut params);
+        if random.chance(25) {
+            repeat(random, &mut params);
+        }
+    }
+    params
+}
+
+/// An id that none of these has.
+fn other_id(random: &mut Random, params: &[Param]) -> u8 {
+    loop {
+        let id = match random.chance(20) {
+            true => random.pick(&[0, 1, 0xFE, 0xFF]),
+            false => random.byte(),
+        };
+        if params.iter().all(|param| param.id != id) {
+            return id;
+        }
+    }
+}
+
+/// Gives two places the same id, now and then 0: with the same value, with
+/// another, or with one of the other kind.
+fn repeat(random: &mut Random, params: &mut [Param]) {
+    let (one, other) = two_places(random, params.len());
+    if random.chance(35) {
+        params[one].id = 0;
+    }
+    params[other].id = params[one].id;
+    let is_float = params[one].value.starts_with("float40=");
+    params[other].value = match random.below(3) {
+        0 => params[one].value.clone(),
+        1 => value_of(random, is_float),
+        _ => value_of(random, !is_float),
+    };
+}
+
+/// Of a list with so many parameters: neighbours, the first and the last, or
+/// two further apart. Of one that is too long both are within the first 32, or
+/// the second is past them.
+fn two_places(random: &mut Random, params: usize) -> (usize, usize) {
+    let (start, end) = match params > MOST_PARAMS {
+        true if random.chance(50) => (MOST_PARAMS, params),
+        _ => (1, params.min(MOST_PARAMS)),
+    };
+    let kind = random.below(3);
+    // only a place from the third on isn't next to the first
+    let start = match kind {
+        2 => start.max(2).min(end - 1),
+        _ => start,
+    };
+    let other = start + random.index(end - start);
+    match kind {
+        0 => (other - 1, other),
+        1 => (0, end - 1),
+        _ => (random.index(other.max(2) - 1), other),
+    }
 }
 
 /// How many parameters: few as a rule, and around the limit of 32.
@@ -101,7 +174,12 @@ fn field(random: &mut Random, name: &str, field: Type) -> String {
 
 /// An integer or a float.
 fn value(random: &mut Random) -> String {
-    if random.chance(50) {
+    let is_float = random.chance(50);
+    value_of(random, is_float)
+}
+
+fn value_of(random: &mut Random, is_float: bool) -> String {
+    if is_float {
         return format!("float40={}", float(random));
     }
     const EDGES: [i32; 8] = [
