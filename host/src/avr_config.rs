@@ -30,7 +30,8 @@ impl AvrConfigSequencer {
     ///
     /// # Errors
     ///
-    /// More than 32 parameters (4).
+    /// More than 32 parameters (4). An id that occurs twice among them (6),
+    /// whatever the values are. No settings of a Mevo are refused.
     pub fn new(settings: AvrSettings) -> Result<(Self, Vec<Action>), Refusal> {
         let begun = ffi::wigtalom_avr_config_new(settings.record());
         let sends = convert::answer(begun.refusal, &begun.action)?;

@@ -49,6 +49,8 @@ mod steps;
 #[cfg(test)]
 mod handed_back;
 #[cfg(test)]
+mod repeats;
+#[cfg(test)]
 mod unknown_numbers;
 
 pub use addr::BusAddr;

@@ -18,6 +18,8 @@ pub enum Refusal {
     /// 5: a part of a buffer, from a place on, that is shorter than the sheet;
     /// or a place past the buffer's end.
     PartTooShort,
+    /// 6: settings in which a parameter's id occurs twice.
+    RepeatedParam,
     /// 11: a clock reading below the last accepted one.
     ReadingBelowLast,
     /// 12: a result before the sequence is complete.
@@ -39,6 +41,7 @@ impl Refusal {
             Refusal::ReadingTooLarge => 3,
             Refusal::TooManyParams => 4,
             Refusal::PartTooShort => 5,
+            Refusal::RepeatedParam => 6,
             Refusal::ReadingBelowLast => 11,
             Refusal::NotDone => 12,
             Refusal::RetriesFull => 13,
@@ -55,6 +58,7 @@ impl Refusal {
             3 => Err(Refusal::ReadingTooLarge),
             4 => Err(Refusal::TooManyParams),
             5 => Err(Refusal::PartTooShort),
+            6 => Err(Refusal::RepeatedParam),
             11 => Err(Refusal::ReadingBelowLast),
             12 => Err(Refusal::NotDone),
             13 => Err(Refusal::RetriesFull),
@@ -71,6 +75,7 @@ impl fmt::Display for Refusal {
             Refusal::ReadingTooLarge => "a clock reading that is too large",
             Refusal::TooManyParams => "more than 32 parameters",
             Refusal::PartTooShort => "no room for the sheet from its place on",
+            Refusal::RepeatedParam => "a parameter's id that occurs twice",
             Refusal::ReadingBelowLast => "a clock reading below the last one",
             Refusal::NotDone => "the sequence is not complete",
             Refusal::RetriesFull => "no more nacks of an arm can be counted",

@@ -5,11 +5,16 @@ use crate::message::{ParamValue, RadarCal};
 use crate::records::{COptionRadarCal, CParamValue, CSettings, MAX_PARAMS};
 
 /// What an AVR configuration sets.
+///
+/// The fields may hold any list: one that is too long, or in which an id
+/// occurs twice, can be read, kept and shown. Only the start of a
+/// configuration refuses it.
 #[derive(Debug, Clone, PartialEq)]
 pub struct AvrSettings {
     /// The detection mode's number.
     pub mode: u8,
-    /// The parameters, in the order in which they are sent; at most 32.
+    /// The parameters, in the order in which they are sent: at most 32, each
+    /// with an id of its own.
     pub params: Vec<ParamValue>,
     /// The radar calibration. A mode change has none.
     pub radar_cal: Option<RadarCal>,

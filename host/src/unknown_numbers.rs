@@ -6,7 +6,7 @@ use crate::BusAddr;
 use crate::device::DeviceModel;
 use crate::ffi::{self, Lent};
 use crate::message::{AvrStatus, ConfigAck, DspStatus, DspStatus46, Envelope, Message};
-use crate::records::{CAvr, CDsp, CEnvelope, CParamValue, CPi, CSettings, CTicks, CWritten};
+use crate::records::{CAvr, CDsp, CEnvelope, CPi, CSettings, CTicks, CWritten};
 use crate::settings::AvrSettings;
 
 const UNKNOWN: u8 = 21;
@@ -229,23 +229,37 @@ fn of_an_arm() {
     }
 }
 
-/// Settings with a format that there is not, at the last of so many.
+/// Holds a start to this number, no send, and the run of empty settings.
+pub(crate) fn refused_start(settings: CSettings, number: u8) {
+    let empty = ffi::wigtalom_avr_config_new(AvrSettings::mode_only(0).record());
+    let begun = ffi::wigtalom_avr_config_new(settings);
+    assert_eq!((begun.refusal, begun.action.some), (number, false));
+    assert_eq!(begun.seq, empty.seq);
+}
+
+/// Settings whose ids differ, so many of which count, with a format that there
+/// is not at the last place.
 fn wrong_settings(len: usize) -> CSettings {
     let mut settings = AvrSettings::mode_only(9).record();
     settings.len = len;
-    settings.params[31] = CParamValue {
-        format: 2,
-        ..CParamValue::default()
-    };
+    for (id, param) in (0..).zip(&mut settings.params) {
+        param.param_id = id;
+    }
+    settings.params[31].format = 2;
     settings
 }
 
+/// A count above 32 is told first, and last that an id occurs twice, which is
+/// asked of settings: numbers that no format has make none.
 #[test]
 fn of_settings() {
-    let begun = ffi::wigtalom_avr_config_new(wrong_settings(32));
-    assert_eq!((begun.refusal, begun.action.some), (UNKNOWN, false));
-    let too_many = ffi::wigtalom_avr_config_new(wrong_settings(33));
-    assert_eq!((too_many.refusal, too_many.action.some), (4, false));
+    let starts = [(0, UNKNOWN), (2, UNKNOWN), (32, UNKNOWN), (33, 4)];
+    for (len, number) in starts {
+        let mut settings = wrong_settings(len);
+        refused_start(settings, number);
+        settings.params[1].param_id = 0;
+        refused_start(settings, number);
+    }
     let mut format = ffi::wigtalom_avr_config_new(AvrSettings::mode_only(9).record()).seq;
     let mut step = format;
     format.settings = wrong_settings(32);

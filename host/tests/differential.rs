@@ -57,7 +57,7 @@ fn nothing_missing(which: Which, counts: &Counts) {
         Which::Dsp => (&[1, 2, 3, 5, 11, 12], false),
         Which::Avr => (&[1, 2, 3, 5, 11, 12], true),
         Which::Pi => (&[1, 2, 5, 12], true),
-        Which::AvrConfig => (&[1, 2, 4], true),
+        Which::AvrConfig => (&[1, 2, 4, 6], true),
         Which::Disarm => (&[1, 2], false),
         Which::Arm => (&[1, 2, 13], false),
     };
@@ -242,12 +242,14 @@ fn a_wrong_sheet_is_noticed() {
 fn a_lost_send_and_a_wrong_number_are_noticed() {
     let lost = |f: &mut Fields| f.list.retain(|(name, _)| *name != "command");
     must_differ(Which::Arm, lost, "command");
-    let wrong = |f: &mut Fields| {
-        for (name, value) in &mut f.list {
-            if *name == "refused" && *value == Value::Number(11) {
-                *value = Value::Number(3);
+    fn wrong(fields: &mut Fields, from: u64, to: u64) {
+        for (name, value) in &mut fields.list {
+            if *name == "refused" && *value == Value::Number(from) {
+                *value = Value::Number(to);
             }
         }
-    };
-    must_differ(Which::Dsp, wrong, "refused");
+    }
+    must_differ(Which::Dsp, |f| wrong(f, 11, 3), "refused");
+    must_differ(Which::AvrConfig, |f| wrong(f, 6, 4), "refused");
+    must_differ(Which::AvrConfig, |f| wrong(f, 6, 0), "refused");
 }

@@ -4,7 +4,7 @@
 use wigtalom::{
     ArmSequencer, AvrConfigSequencer, AvrSequencer, AvrSettings, AvrStatus, BusAddr, ConfigAck,
     DevInfoResp, DeviceModel, DisarmSequencer, DspSequencer, DspStatus, DspStatus46, Envelope,
-    Message, ParamData, ParamValue, PiSequencer, PiStatus, Refusal, Text,
+    Message, MevoSettings, ParamData, ParamValue, PiSequencer, PiStatus, RadarCal, Refusal, Text,
 };
 
 const LAST_READING: u64 = 18_446_744_071_709_551_615;
@@ -93,23 +93,78 @@ fn a_reading_too_large() {
     assert_eq!(dsp.state().deadline, Some(LAST_READING + 2_000_000_000));
 }
 
+/// Settings with these ids; an even place has an integer, an odd one a float.
+fn with_ids(ids: &[u8]) -> AvrSettings {
+    let param = |(place, &param_id)| ParamValue {
+        param_id,
+        value: match place % 2 {
+            0 => ParamData::Int24(7),
+            _ => ParamData::Float40(0.5),
+        },
+    };
+    let params = ids.iter().enumerate().map(param);
+    AvrSettings {
+        mode: 9,
+        params: params.collect(),
+        radar_cal: None,
+    }
+}
+
+/// What the start of a configuration answers.
+fn start(settings: AvrSettings) -> Result<usize, Refusal> {
+    AvrConfigSequencer::new(settings).map(|(_, first)| first.len())
+}
+
 #[test]
 fn too_many_parameters() {
-    let param = ParamValue {
-        param_id: 1,
-        value: ParamData::Float40(0.5),
-    };
-    for count in [33, 34, 1_000] {
-        let mut settings = AvrSettings::mode_only(9);
-        settings.params = vec![param; count];
-        let refused = AvrConfigSequencer::new(settings).map(|_| ());
-        assert_eq!(refused, Err(Refusal::TooManyParams));
+    let refused = Err(Refusal::TooManyParams);
+    let ids: Vec<u8> = (0..=255).collect();
+    for count in [33, 34, 256] {
+        assert_eq!(start(with_ids(&ids[..count])), refused);
+        // An id that occurs twice, too.
+        assert_eq!(start(with_ids(&vec![1; count])), refused);
     }
-    let mut settings = AvrSettings::mode_only(9);
-    settings.params = vec![param; 32];
+    // The same where the 33rd alone has an id a second time.
+    let mut last = ids[..33].to_vec();
+    last[32] = 0;
+    assert_eq!(start(with_ids(&last)), refused);
+    let settings = with_ids(&ids[..32]);
     let (seq, first) = AvrConfigSequencer::new(settings.clone()).unwrap();
     assert_eq!(first.len(), 1);
     assert_eq!(seq.state().settings, settings);
+}
+
+/// At any two places of a list of any length, 0 among the ids, with values of
+/// one kind and of both, and with equal values and others.
+#[test]
+fn an_id_that_occurs_twice() {
+    for other in 1..32 {
+        for one in 0..other {
+            let mut ids: Vec<u8> = (0..32).collect();
+            ids[other] = ids[one];
+            for len in other + 1..=32 {
+                let settings = with_ids(&ids[..len]);
+                assert_eq!(start(settings), Err(Refusal::RepeatedParam));
+            }
+            assert_eq!(start(with_ids(&ids[..other])), Ok(1));
+            let mut settings = with_ids(&ids);
+            settings.params[other].value = ParamData::Int24(-1);
+            assert_eq!(start(settings), Err(Refusal::RepeatedParam));
+        }
+    }
+}
+
+/// Whatever they are.
+#[test]
+fn settings_of_a_mevo_are_not_refused() {
+    let floats = [0.0, -0.0, 0.8, f64::INFINITY, f64::NAN];
+    for byte in [0, 6, 15, 38, 255] {
+        for float in floats {
+            let cal = RadarCal::default();
+            let settings = MevoSettings::new(byte, byte, float, float, cal);
+            assert_eq!(start(settings.into()), Ok(1));
+        }
+    }
 }
 
 /// A sheet into every place of buffers of every length up to some. What
@@ -240,6 +295,7 @@ fn refusals_tell_their_numbers() {
         (Refusal::ReadingTooLarge, 3),
         (Refusal::TooManyParams, 4),
         (Refusal::PartTooShort, 5),
+        (Refusal::RepeatedParam, 6),
         (Refusal::ReadingBelowLast, 11),
         (Refusal::NotDone, 12),
         (Refusal::RetriesFull, 13),

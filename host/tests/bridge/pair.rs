@@ -1,5 +1,6 @@
 //! A sequence that runs on both sides.
 
+use std::mem::replace;
 use std::time::{Duration, Instant, SystemTime, UNIX_EPOCH};
 
 use oracle::list::{Begin, Call, Feed, MOST_LENT, Settings, Which};
@@ -274,13 +275,25 @@ pub fn begin(begin: &Begin, to: &mut Answers) -> Box<dyn Running> {
     }
 }
 
-/// Where the settings are refused, empty ones run.
+/// The number of a start with these settings, from docs/SCOPE.md, "Settings
+/// run": more than 32 parameters, or an id that occurs twice.
+fn of_settings(params: &[rust::ParamValue]) -> Option<u8> {
+    if params.len() > refusal::MOST_PARAMS {
+        return Some(4);
+    }
+    let mut met = [false; 256];
+    let again = |param: &rust::ParamValue| replace(&mut met[usize::from(param.param_id)], true);
+    params.iter().any(again).then_some(6)
+}
+
+/// Where the settings are refused, empty ones run. That the library gives such
+/// a run beside the refusal is tested in src/repeats.rs.
 fn configure(settings: &Settings, to: &mut Answers) -> Box<dyn Running> {
     let (theirs, ours) = both_settings(settings);
     theirs.put("settings", &mut to.rust);
     ours.put("settings", &mut to.ours);
     let begun = wigtalom::AvrConfigSequencer::new(ours);
-    to.refused = refusal::of_settings(theirs.params.len());
+    to.refused = of_settings(&theirs.params);
     to.refused.unwrap_or(0).put("refused", &mut to.rust);
     let number = begun.as_ref().map_or_else(|r| r.number(), |_| 0);
     number.put("refused", &mut to.ours);
