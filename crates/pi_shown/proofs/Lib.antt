@@ -1,0 +1,3 @@
+pub mod Compared
+pub mod Whole
+pub mod Days
