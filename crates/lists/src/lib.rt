@@ -82,6 +82,7 @@ mod tests {
         let mut written = Vec::new(rt.alloc());
         let form = Form {
             shown: false,
+            secrets: false,
             with_state: false,
         };
         let bad_lines = replay(rt.alloc(), list.as_slice(), &mut written, form);

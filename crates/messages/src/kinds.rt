@@ -89,6 +89,14 @@ pub fn message(reader: &mut Reader<'_>, tail: &mut Vec<u8>) -> Result<Message, B
     })
 }
 
+// Whether the next word is a kind, and another than a network reply's.
+pub fn names_another(reader: &mut Reader<'_>) -> bool {
+    match reader.next() {
+        Ok(Kind::NetConfigResp) | Err(_) => false,
+        Ok(_) => true,
+    }
+}
+
 // The 34 numbers of a `ConfigResp`, with commas between them.
 pub fn params(reader: &mut Reader<'_>) -> Result<[i16; 34], Bad> {
     reader.name("params=")?;

@@ -3,4 +3,4 @@
 
 mod kinds;
 
-pub use kinds::{message, param_value, params, radar_cal};
+pub use kinds::{message, names_another, param_value, params, radar_cal};

@@ -4,14 +4,20 @@ use pi::{PiSequencer, PiSync};
 use protocol::Stored;
 use std::io;
 use std::io::Write;
+use streams::answers::Text;
+use streams::withheld::MARK;
 use writing::{fields, records, sheets};
 
-fn network<W: Write>(out: &mut W, ssid: &Stored, password: &Stored) -> io::Result<()> {
+// Where it is withheld it is not in the answer at all.
+fn network(out: &mut Text, ssid: &Stored, password: &Stored) -> io::Result<()> {
+    if out.withholds() {
+        return write!(out, " ssid={MARK} password={MARK}");
+    }
     fields::stored(out, "ssid", ssid)?;
     fields::stored(out, "password", password)
 }
 
-pub fn sync<W: Write>(out: &mut W, s: &PiSync) -> io::Result<()> {
+pub fn sync(out: &mut Text, s: &PiSync) -> io::Result<()> {
     write!(out, ";")?;
     records::dev_info(out, &s.dev_info)?;
     camera::config(out, &s.cam_config)?;
@@ -19,7 +25,7 @@ pub fn sync<W: Write>(out: &mut W, s: &PiSync) -> io::Result<()> {
 }
 
 // Every stored field.
-pub fn state<W: Write>(out: &mut W, pi: &PiSequencer) -> io::Result<()> {
+pub fn state(out: &mut Text, pi: &PiSequencer) -> io::Result<()> {
     let r = &pi.replies;
     write!(out, "; state")?;
     fields::optional(out, "dev_info", &r.dev_info, records::dev_info)?;

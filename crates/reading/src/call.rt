@@ -299,6 +299,22 @@ fn read_sequence(
     Ok(Sequence::AvrConfig)
 }
 
+// Whether a line, of which not all need be readable, names another call than a feed, or where its kind stands another kind than a network reply.
+pub fn names_another(line: &[u8]) -> bool {
+    let mut reader = Reader::new(line);
+    match reader.next() {
+        Ok(Name::Feed) => {}
+        Ok(_) => return true,
+        Err(_) => return false,
+    }
+    // the reading, the source and the type id
+    for _ in 0..3 {
+        reader.skip_blanks();
+        reader.word();
+    }
+    messages::names_another(&mut reader)
+}
+
 // The call of a line, if it is no comment. The sequence that runs has these calls; `None` before the first sequence.
 pub fn read_line<'b>(
     line: &[u8],

@@ -5,5 +5,6 @@ mod call;
 mod run_settings;
 
 pub use call::{
-    Call, Calls, DeviceCall, Feed, Lent, SHEET_BUFFER, Sequence, SheetBuffer, read_line,
+    Call, Calls, DeviceCall, Feed, Lent, SHEET_BUFFER, Sequence, SheetBuffer, names_another,
+    read_line,
 };

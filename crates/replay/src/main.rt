@@ -1,5 +1,5 @@
-// replay [--show] [--state] [--status] [FILE]: writes what each call of a list answers, as docs/REPLAY.md says. Messages go to standard error. With
-// --status it ends with its exit status, and writes that to descriptor 3 too, if one is open for writing; else it ends with 0.
+// replay [--show [--secrets]] [--state] [--status] [FILE]: writes what each call of a list answers, as docs/REPLAY.md says. Messages go to standard
+// error. With --status it ends with its exit status, and writes that to descriptor 3 too, if one is open for writing; else it ends with 0.
 #![tactic(auto)]
 
 use std::alloc::AllocError;
@@ -56,6 +56,7 @@ impl<'a> Options<'a> {
         let mut options = Options {
             form: Form {
                 shown: false,
+                secrets: false,
                 with_state: false,
             },
             file: None,
@@ -64,6 +65,7 @@ impl<'a> Options<'a> {
             match word.as_slice() {
                 b"--state" => options.form.with_state = true,
                 b"--show" => options.form.shown = true,
+                b"--secrets" => options.form.secrets = true,
                 b"--status" => {}
                 [b'-', b'-', ..] => return Err(Error::Usage),
                 file => {
@@ -72,6 +74,10 @@ impl<'a> Options<'a> {
                     }
                 }
             }
+        }
+        // the plain form withholds nothing
+        if options.form.secrets && !options.form.shown {
+            return Err(Error::Usage);
         }
         Ok(options)
     }
@@ -140,7 +146,13 @@ fn status(rt: &HostRuntime, name: &[u8], answered: Result<u64, Error>) -> Exit {
     match answered {
         Ok(0) => return Exit::AllRead,
         Ok(_) => return Exit::BadLine,
-        Err(Error::Usage) => complain(rt, b"usage: replay [--show] [--state] [FILE]", ""),
+        Err(Error::Usage) => {
+            complain(
+                rt,
+                b"usage: replay [--show [--secrets]] [--state] [FILE]",
+                "",
+            )
+        }
         Err(Error::Name) => complain(rt, name, ": not UTF-8"),
         Err(Error::File(error)) => complain_of(rt, name, &error),
         Err(Error::List(Failure::Input)) => complain(rt, name, ": can't be read"),

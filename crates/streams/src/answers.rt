@@ -1,7 +1,8 @@
 // The answers to a list's calls, as they are written out.
-use crate::Failure;
 use crate::lines::Line;
 use crate::running::Sequence;
+use crate::withheld::Withheld;
+use crate::{Failure, withheld};
 use reading::{Call, DeviceCall};
 use showing::Shown;
 use std::alloc::Global;
@@ -20,10 +21,11 @@ const ROOM_FOR_LINE: usize = 16_384;
 // The longest answers are results with the state of a DSP: some 10,400 bytes.
 const ANSWER: usize = 16_384;
 
-// How answers are written: whether for people, and whether with the stored state behind each.
+// How answers are written: whether for people, and then whether with what else is withheld; and whether with the stored state behind each.
 #[derive(Clone, Copy)]
 pub struct Form {
     pub shown: bool,
+    pub secrets: bool,
     pub with_state: bool,
 }
 
@@ -31,6 +33,17 @@ pub struct Form {
 #[derive(Drop)]
 pub struct Text {
     bytes: Vec<u8>,
+    // whether the camera's network is withheld, and whether anything was so far
+    withholds: bool,
+    withheld: bool,
+}
+
+impl Text {
+    // Whether the camera's network, which comes next, is withheld.
+    pub fn withholds(&mut self) -> bool {
+        self.withheld |= self.withholds;
+        self.withholds
+    }
 }
 
 impl Write for Text {
@@ -56,6 +69,9 @@ pub struct Answers<W: Write + Drop> {
     // the answer to the line that is read, and the line's number
     pub answer: Text,
     number: u64,
+    // what is withheld of the line, and then the line as it is shown
+    withheld: Option<Withheld>,
+    line: Vec<u8>,
     with_state: bool,
     // what a list that is shown goes by
     shown: Option<Shown>,
@@ -103,8 +119,12 @@ impl<W: Write + Drop> Answers<W> {
             output: BufWriter::with_capacity(alloc, OUT, output)?,
             answer: Text {
                 bytes: Vec::with_capacity(alloc, ANSWER)?,
+                withholds: form.shown && !form.secrets,
+                withheld: false,
             },
             number: 0,
+            withheld: None,
+            line: Vec::new(alloc),
             with_state: form.with_state,
             shown,
             bad_lines: 0,
@@ -122,15 +142,36 @@ impl<W: Write + Drop> Answers<W> {
         Ok(())
     }
 
-    // Before a line is answered. The line itself is written if the list is shown; of a longer one than may be its first bytes are.
-    pub fn begin(&mut self, line: Line<'_>) -> io::Result<()> {
+    // Before a line is answered, which was read so. The line itself is written if the list is shown; of a longer one than may be its first bytes are.
+    pub fn begin(
+        &mut self,
+        line: Line<'_>,
+        read: &Result<Option<Call<'_>>, Bad>,
+    ) -> io::Result<()> {
         self.number = line.number;
-        if self.shown.is_some() {
-            self.make_room(ROOM_FOR_LINE)?;
-            let text = line.text;
-            showing::line(&mut self.output, &text[..text.len().min(LINE)])?;
+        if self.shown.is_none() {
+            return Ok(());
         }
-        Ok(())
+        self.make_room(ROOM_FOR_LINE)?;
+        let text = &line.text[..line.text.len().min(LINE)];
+        self.withheld = None;
+        if self.answer.withholds {
+            self.withheld = withheld::of_line(text, read);
+        }
+        match self.withheld {
+            Some(Withheld { from, .. }) => self.line_up_to(text, from),
+            None => showing::line(&mut self.output, text),
+        }
+    }
+
+    // Writes a line of which what stands from a place on is withheld.
+    fn line_up_to(&mut self, text: &[u8], from: usize) -> io::Result<()> {
+        self.answer.withheld = true;
+        self.line.clear();
+        self.line.extend_from_slice(&text[..from.min(text.len())])?;
+        self.line.extend_from_slice(b" ")?;
+        self.line.extend_from_slice(withheld::MARK.as_bytes())?;
+        showing::line(&mut self.output, self.line.as_slice())
     }
 
     // Before the answer to a call. If the list is shown, a model that is taken by default is told.
@@ -149,7 +190,14 @@ impl<W: Write + Drop> Answers<W> {
         self.bad_lines = self.bad_lines.wrapping_add(1);
         if let Some(shown) = &mut self.shown {
             shown.unread();
-            showing::mark(&mut self.output, line.text, bad.at)?;
+            match self.withheld {
+                Some(Withheld { fault: true, .. }) => {
+                    write!(self.answer, "{}", withheld::FAULT)?;
+                    return self.end();
+                }
+                Some(_) => showing::mark(&mut self.output, self.line.as_slice(), bad.at)?,
+                None => showing::mark(&mut self.output, line.text, bad.at)?,
+            }
         }
         write!(self.answer, "{bad}")?;
         self.end()
@@ -178,10 +226,13 @@ impl<W: Write + Drop> Answers<W> {
         self.end()
     }
 
-    // After the last line: sums up a list that is shown, and writes out what is left.
+    // After the last line: sums up a list that is shown, tells whether anything was withheld, and writes out what is left.
     pub fn finish(&mut self) -> io::Result<()> {
         if let Some(shown) = &self.shown {
             shown.sum_up(&mut self.output)?;
+        }
+        if self.answer.withheld {
+            writeln!(self.output, "{}", withheld::NOTE)?;
         }
         self.write_out()
     }

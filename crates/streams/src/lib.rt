@@ -1,5 +1,6 @@
 // A list of calls as it is answered: its lines, read one by one (lines), the answers as they are written out (answers), and the sequences, which answer
-// its calls (running). Calls that no sequence is needed for are answered here (device_calls), and those for a sheet (sheets).
+// its calls (running). Calls that no sequence is needed for are answered here (device_calls), and those for a sheet (sheets). Of a list that is shown some
+// is withheld (withheld).
 #![tactic(auto)]
 
 pub mod answers;
@@ -7,6 +8,7 @@ mod device_calls;
 pub mod lines;
 pub mod running;
 mod sheets;
+pub mod withheld;
 
 use answers::{Answers, Form};
 use lines::Lines;

@@ -157,8 +157,8 @@ pub fn run<S: Sequence + Drop, R: Read + Drop, W: Write + Drop>(
         let Some(line) = list.lines.next(&mut list.answers)? else {
             return Ok(None);
         };
-        list.answers.begin(line)?;
         let read = read_line(line.text, S::CALLS, &mut list.lent);
+        list.answers.begin(line, &read)?;
         match &read {
             Ok(Some(call)) => {
                 list.answers.call(call)?;

@@ -1,5 +1,5 @@
-// Runs the trials of data/trials.list, then shows the examples, and the list data/odd.list with its states. What must be written, in
-// stdout, was written by the Rust (oracle/regenerate).
+// Runs the trials of data/trials.list, then shows the examples, the list data/odd.list with its states, and so data/network.list, without what is
+// withheld and whole. What must be written, in stdout, was written by the Rust (oracle/regenerate).
 #![tactic(auto)]
 
 use std::fs::File;
@@ -19,23 +19,27 @@ fn run(rt: &HostRuntime, path: &str, form: Form) -> io::Result<()> {
 fn main(rt: HostRuntime) -> io::Result<()> {
     let plain = Form {
         shown: false,
+        secrets: false,
         with_state: false,
     };
+    let shown = Form {
+        shown: true,
+        ..plain
+    };
+    let with_states = Form {
+        with_state: true,
+        ..shown
+    };
     run(&rt, "trials.list", plain)?;
+    run(&rt, "examples.list", shown)?;
+    run(&rt, "odd.list", with_states)?;
+    run(&rt, "network.list", with_states)?;
     run(
         &rt,
-        "examples.list",
+        "network.list",
         Form {
-            shown: true,
-            ..plain
-        },
-    )?;
-    run(
-        &rt,
-        "odd.list",
-        Form {
-            shown: true,
-            with_state: true,
+            secrets: true,
+            ..with_states
         },
     )
 }
