@@ -8,9 +8,9 @@ use std::thread;
 
 use crate::compare::{Source, as_text};
 use crate::front;
-use crate::generate::{LEANINGS, Random};
+use crate::generate::{LEANINGS, Random, twin};
 use crate::list::{self, Call, Which};
-use crate::show;
+use crate::show::{self, Form};
 
 /// The lines of a list before it is broken, or some more.
 const LINES: usize = 12;
@@ -21,6 +21,7 @@ const CALLS: u64 = 60;
 pub struct Broken {
     sources: Vec<Source>,
     random: Random,
+    of_twins: Random,
 }
 
 impl Broken {
@@ -29,6 +30,7 @@ impl Broken {
         Broken {
             sources: LEANINGS.map(source).into(),
             random: Random::new(!seed),
+            of_twins: Random::new(seed),
         }
     }
 
@@ -41,6 +43,12 @@ impl Broken {
             self.break_it(&mut text);
         }
         comparable(&text)
+    }
+
+    /// The same list with other texts in its network replies, and how many
+    /// lines of it are others.
+    pub fn twin(&mut self, list: &[u8]) -> (Vec<u8>, usize) {
+        twin(list, &mut self.of_twins)
     }
 
     /// Any place, or one in a line that is picked first: so a short line, as
@@ -175,20 +183,20 @@ pub fn run(program: &OsStr, words: &[&str], text: &[u8]) -> io::Result<Outcome> 
     })
 }
 
-/// What the front end makes of it.
-pub fn expected(text: &[u8], shown: bool) -> Outcome {
+/// What the front end makes of it, in a form in which it is shown or plain.
+pub fn expected(text: &[u8], shown: Option<Form>) -> Outcome {
     let mut answers = Vec::new();
     front::run(&mut &text[..], &mut answers, true).expect("a buffer");
     let bad = String::from_utf8_lossy(&answers).lines().any(is_bad_line);
     let status = if bad { "1" } else { "0" }.to_string();
-    if !shown {
+    let Some(form) = shown else {
         return Outcome {
             output: answers,
             status,
         };
-    }
+    };
     let mut output = Vec::new();
-    show::run(&mut &text[..], &mut output, true).expect("a buffer");
+    show::run(&mut &text[..], &mut output, form).expect("a buffer");
     Outcome { output, status }
 }
 
@@ -219,10 +227,11 @@ fn calls(text: &[u8]) -> Vec<usize> {
         .collect()
 }
 
-/// What is wrong with the answers to a list, if anything is.
-pub fn fault(program: &OsStr, text: &[u8]) -> io::Result<Option<&'static str>> {
+/// What is wrong with the answers to a list, if anything is. Its twin differs
+/// in the texts of network replies alone.
+pub fn fault(program: &OsStr, text: &[u8], twin: &[u8]) -> io::Result<Option<&'static str>> {
     let plain = run(program, &["--state"], text)?;
-    if plain != expected(text, false) {
+    if plain != expected(text, None) {
         return Ok(Some("the answers differ"));
     }
     let answers = String::from_utf8_lossy(&plain.output).into_owned();
@@ -231,17 +240,32 @@ pub fn fault(program: &OsStr, text: &[u8]) -> io::Result<Option<&'static str>> {
     if answered != calls(text).into_iter().map(Some).collect::<Vec<_>>() {
         return Ok(Some("not one answer for each call"));
     }
-    let shown = run(program, &["--show", "--state"], text)?;
-    if shown != expected(text, true) {
-        return Ok(Some("what is shown differs"));
+    let shown = run(program, &SHOW, text)?;
+    let whole = run(program, &[&SHOW[..], &["--secrets"]].concat(), text)?;
+    for (shown, secrets) in [(&shown, false), (&whole, true)] {
+        let with_state = true;
+        let form = Form {
+            with_state,
+            secrets,
+        };
+        if *shown != expected(text, Some(form)) {
+            return Ok(Some("what is shown differs"));
+        }
+        if !fits(&shown.output) {
+            return Ok(Some("a line that is shown has more than 100 columns"));
+        }
     }
-    let columns = |line: &[u8]| line.iter().filter(|b| **b & 0xC0 != 0x80).count();
-    if shown
-        .output
-        .split(|b| *b == b'\n')
-        .any(|line| columns(line) > 100)
-    {
-        return Ok(Some("a line that is shown has more than 100 columns"));
+    if run(program, &SHOW, twin)? != shown {
+        return Ok(Some("its twin is shown otherwise"));
     }
     Ok(None)
+}
+
+const SHOW: [&str; 2] = ["--show", "--state"];
+
+fn fits(shown: &[u8]) -> bool {
+    let columns = |line: &[u8]| line.iter().filter(|b| **b & 0xC0 != 0x80).count();
+    shown
+        .split(|b| *b == b'\n')
+        .all(|line| columns(line) <= 100)
 }

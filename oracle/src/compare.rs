@@ -11,7 +11,7 @@ use crate::front::Front;
 use crate::generate::{BadLines, Generator, LONG_ARM, Leaning};
 use crate::list::{self, Call, Which};
 use crate::running::View;
-use crate::show::Show;
+use crate::show::{Form, Show};
 
 /// The lines after which a list ends, with its last sequence.
 pub const LIST_LINES: usize = 20_000;
@@ -140,8 +140,8 @@ impl Source {
 /// The program that is compared.
 pub struct Program {
     pub path: OsString,
-    /// Whether lists are shown to people.
-    pub shown: bool,
+    /// How lists are shown to people, if they are.
+    pub shown: Option<Form>,
 }
 
 /// The first line in which two outputs differ. An absent line is `None`.
@@ -161,7 +161,8 @@ impl Program {
         };
         let mut child = Command::new(&self.path)
             .arg("--state")
-            .args(self.shown.then_some("--show"))
+            .args(self.shown.map(|_| "--show"))
+            .args(self.shown.filter(|form| form.secrets).map(|_| "--secrets"))
             .stdin(Stdio::piped())
             .stdout(Stdio::piped())
             .stderr(stderr)
@@ -182,18 +183,17 @@ impl Program {
     /// Compares the answers to a list with those of the front end.
     pub fn difference(&self, list: &List) -> io::Result<Option<Difference>> {
         let answers = self.answers(&list.lines, false)?;
-        if self.shown {
-            return Ok(difference(&shown(&list.lines), &answers));
+        if let Some(form) = self.shown {
+            return Ok(difference(&shown(&list.lines, form), &answers));
         }
         Ok(difference(&list.answers, &answers))
     }
 
     fn difference_of(&self, lines: &[String]) -> io::Result<Option<Difference>> {
         let answers = self.answers(lines, true)?;
-        let front = if self.shown {
-            shown(lines)
-        } else {
-            front_answers(lines)
+        let front = match self.shown {
+            Some(form) => shown(lines, form),
+            None => front_answers(lines),
         };
         Ok(difference(&front, &answers))
     }
@@ -237,8 +237,8 @@ pub fn front_answers(lines: &[String]) -> String {
 }
 
 /// The lines, shown to people.
-fn shown(lines: &[String]) -> String {
-    let (mut show, mut out) = (Show::new(true), Vec::new());
+fn shown(lines: &[String], form: Form) -> String {
+    let (mut show, mut out) = (Show::new(form), Vec::new());
     for line in lines {
         show.line(line.as_bytes(), &mut out);
     }

@@ -42,4 +42,5 @@ pub mod refusal;
 pub mod running;
 pub mod sheet;
 pub mod show;
+pub mod withheld;
 pub mod write;

@@ -8,6 +8,7 @@ use crate::front::{Front, without_mark};
 use crate::list::{self, Begin, Call, Which};
 use crate::papers;
 use crate::running::{Step, View};
+use crate::withheld::{self, Withheld};
 use crate::write;
 
 const WIDTH: usize = 100;
@@ -47,12 +48,25 @@ const OUTER: [&str; 24] = [
     "ticks",
 ];
 const READINGS: [&str; 4] = ["last", "deadline", "cal_deadline", "repoll_at"];
+/// The fields that have the camera's network.
+const NETWORK: [&str; 2] = ["ssid", "password"];
 /// The models that have a tag.
 const TAGS: [(&str, &str); 2] = [("model=Xi", "FS Xi"), ("model=Rig", "BAY RIG")];
+
+/// How a list is shown.
+#[derive(Clone, Copy, Default)]
+pub struct Form {
+    pub with_state: bool,
+    /// Whether with what is withheld else.
+    pub secrets: bool,
+}
 
 /// A list that is shown, between two lines.
 pub struct Show {
     front: Front,
+    secrets: bool,
+    /// Whether anything was withheld so far.
+    withheld: bool,
     lines: u64,
     calls: u64,
     refused: u64,
@@ -60,9 +74,11 @@ pub struct Show {
 }
 
 impl Show {
-    pub fn new(with_state: bool) -> Self {
+    pub fn new(form: Form) -> Self {
         Show {
-            front: Front::new(with_state),
+            front: Front::new(form.with_state),
+            secrets: form.secrets,
+            withheld: false,
             lines: 0,
             calls: 0,
             refused: 0,
@@ -78,11 +94,21 @@ impl Show {
         } else {
             line
         };
-        let shown = &own[..own.len().min(list::LONGEST)];
-        let shown = shown.strip_suffix(b"\r").unwrap_or(shown);
-        folded(out, shown, 0, HANG);
         let (before, mut answer) = (self.front.view(), String::new());
         let read = self.front.line(line, &mut answer);
+        let kept = without_return(&own[..own.len().min(list::LONGEST)]);
+        let withheld = match self.secrets {
+            true => None,
+            false => withheld::of_line(kept, &read),
+        };
+        self.withheld |= withheld.is_some();
+        let shown = match &withheld {
+            None => kept.to_vec(),
+            Some(Withheld { from, .. }) => {
+                [&kept[..*from], b" ", withheld::MARK.as_bytes()].concat()
+            }
+        };
+        folded(out, &shown, 0, HANG);
         let answer = answer.trim_end_matches('\n');
         let answer = answer.split_once(": ").map_or("", |(_, answer)| answer);
         match read {
@@ -94,13 +120,20 @@ impl Show {
             }
             Err(bad) => {
                 self.bad_lines += 1;
-                mark(out, own.strip_suffix(b"\r").unwrap_or(own), bad.column);
+                if withheld.as_ref().is_some_and(|withheld| withheld.fault) {
+                    return indented(out, withheld::FAULT);
+                }
+                let marked = match withheld {
+                    Some(_) => &shown,
+                    None => without_return(own),
+                };
+                mark(out, marked, bad.column);
                 indented(out, answer);
             }
         }
     }
 
-    fn answer(&self, call: &Call, before: Option<View>, answer: &str, out: &mut Vec<u8>) {
+    fn answer(&mut self, call: &Call, before: Option<View>, answer: &str, out: &mut Vec<u8>) {
         if gives_no_model(call) {
             indented(out, "model Mevo by default");
         }
@@ -135,14 +168,39 @@ impl Show {
                 ("state", _) if part.len() == 1 => {}
                 ("state", _) => {
                     indented(out, "state");
-                    fields(out, &part[1..]);
+                    self.fields(out, &part[1..]);
                 }
                 (word, _) if word.starts_with("Wait") || word == "Done" => {
                     let still = if moved { "now" } else { "still" };
                     indented(out, &format!("{still} {}", part.join(" ")));
                 }
-                (word, _) if word.contains('=') => fields(out, part),
+                (word, _) if word.contains('=') => self.fields(out, part),
                 _ => indented(out, &part.join(" ")),
+            }
+        }
+    }
+
+    /// Writes each field on a line of its own.
+    fn fields(&mut self, out: &mut Vec<u8>, words: &[&str]) {
+        let mut infos = 0;
+        for word in words {
+            let (name, value) = word.split_once('=').expect(word);
+            let plain = value.split('|').next().unwrap();
+            if NETWORK.contains(&name) && !self.secrets {
+                self.withheld = true;
+                field(out, FIELD, name, withheld::MARK);
+            } else if let Some((inner, _)) = plain.split_once('=') {
+                out.extend(format!("{:FIELD$}{name}\n", "").bytes());
+                field(out, INNER, inner, &value[inner.len() + 1..]);
+            } else if name == "prod_info" {
+                field(out, FIELD, &format!("{name} {infos}"), value);
+                infos += 1;
+            } else if name == "tag_place" && value != "none" {
+                field(out, FIELD, name, &format!("{value}  \"{}\"", tag(words)));
+            } else if OUTER.contains(&name) {
+                field(out, FIELD, name, value);
+            } else {
+                field(out, INNER, name, value);
             }
         }
     }
@@ -168,12 +226,15 @@ impl Show {
                 }
             }
         }
+        if self.withheld {
+            out.extend(format!("{}\n", withheld::NOTE).bytes());
+        }
     }
 }
 
 /// Shows every line of a list.
-pub fn run(list: &mut dyn BufRead, to: &mut dyn Write, with_state: bool) -> io::Result<()> {
-    let (mut show, mut line, mut out) = (Show::new(with_state), Vec::new(), Vec::new());
+pub fn run(list: &mut dyn BufRead, to: &mut dyn Write, form: Form) -> io::Result<()> {
+    let (mut show, mut line, mut out) = (Show::new(form), Vec::new(), Vec::new());
     while list.read_until(b'\n', &mut line)? > 0 {
         show.line(line.strip_suffix(b"\n").unwrap_or(&line), &mut out);
         to.write_all(&out)?;
@@ -272,6 +333,11 @@ fn indented(out: &mut Vec<u8>, line: &str) {
     folded(out, line.as_bytes(), ANSWER, HANG);
 }
 
+/// A line as it is read: without the carriage return at its end.
+fn without_return(line: &[u8]) -> &[u8] {
+    line.strip_suffix(b"\r").unwrap_or(line)
+}
+
 /// Marks the place of a fault below a line that isn't folded.
 fn mark(out: &mut Vec<u8>, line: &[u8], column: usize) {
     let columns = |bytes: &[u8]| bytes.iter().filter(|b| **b & 0xC0 != 0x80).count();
@@ -328,28 +394,6 @@ fn word_len(words: &str) -> usize {
         Some(bar) => {
             let digits = bar - words[..bar].rfind('=').map_or(0, |equals| equals + 1);
             bar + digits / 2 + 2
-        }
-    }
-}
-
-/// Writes each field on a line of its own.
-fn fields(out: &mut Vec<u8>, words: &[&str]) {
-    let mut infos = 0;
-    for word in words {
-        let (name, value) = word.split_once('=').expect(word);
-        let plain = value.split('|').next().unwrap();
-        if let Some((inner, _)) = plain.split_once('=') {
-            out.extend(format!("{:FIELD$}{name}\n", "").bytes());
-            field(out, INNER, inner, &value[inner.len() + 1..]);
-        } else if name == "prod_info" {
-            field(out, FIELD, &format!("{name} {infos}"), value);
-            infos += 1;
-        } else if name == "tag_place" && value != "none" {
-            field(out, FIELD, name, &format!("{value}  \"{}\"", tag(words)));
-        } else if OUTER.contains(&name) {
-            field(out, FIELD, name, value);
-        } else {
-            field(out, INNER, name, value);
         }
     }
 }

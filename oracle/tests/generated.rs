@@ -244,7 +244,7 @@ fn broken_lists_have_sheets() {
     for _ in 0..500 {
         let list = lists.list();
         let lines: Vec<&[u8]> = list.split(|b| *b == b'\n').collect();
-        let answers = broken::expected(&list, false).output;
+        let answers = broken::expected(&list, None).output;
         for answer in String::from_utf8_lossy(&answers).lines() {
             let (number, answer) = answer.split_once(": ").unwrap();
             let line = lines[number.parse::<usize>().unwrap() - 1];

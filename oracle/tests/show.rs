@@ -10,11 +10,22 @@ use oracle::compare::Source;
 use oracle::generate::LEANINGS;
 use oracle::list::Which;
 use oracle::papers;
-use oracle::show::{self, Show};
+use oracle::show::{self, Form, Show};
 
 fn shown(list: &str, with_state: bool) -> String {
+    let secrets = false;
+    shown_in(
+        list,
+        Form {
+            with_state,
+            secrets,
+        },
+    )
+}
+
+fn shown_in(list: &str, form: Form) -> String {
     let mut out = Vec::new();
-    show::run(&mut list.as_bytes(), &mut out, with_state).unwrap();
+    show::run(&mut list.as_bytes(), &mut out, form).unwrap();
     String::from_utf8(out).unwrap()
 }
 
@@ -337,7 +348,7 @@ fn ticks_of_a_state() {
     let two = "      ticks                   5000000000R,7000000000K\n";
     assert_eq!(lines.matches(two).count(), 2);
     let ticks = shown(&format!("pi\n{}", "feed 1 Pi 1 PiStatus\n".repeat(3)), true);
-    let status = "      password                empty\n      ticks                   0R\n";
+    let status = "      password                (withheld)\n      ticks                   0R\n";
     assert_eq!(ticks.matches(status).count(), 3);
     let status =
         message("AvrStatus from Avr", "Xi", 1).replace("feed 1 ", "feed 18446744071709551615 ");
@@ -497,7 +508,10 @@ fn columns(line: &str) -> usize {
 fn generated_lists() {
     for leaning in LEANINGS {
         let lines = Source::new(7, leaning, true).list(usize::MAX, 1_500).lines;
-        let mut show = Show::new(true);
+        let mut show = Show::new(Form {
+            with_state: true,
+            secrets: true,
+        });
         let mut plain = oracle::front::Front::new(true);
         for line in &lines {
             let (mut out, mut answer) = (Vec::new(), String::new());
@@ -595,7 +609,16 @@ fn stored() {
         .map(|name| fs::read_to_string(name).unwrap() + "\n");
     assert_eq!(examples, each.collect::<String>());
     let odd = repository("crates/trials/data/odd.list");
-    let both = shown(&examples, false) + &shown(&odd, true);
+    let network = repository("crates/trials/data/network.list");
+    let both = shown(&examples, false) + &shown(&odd, true) + &shown(&network, true);
+    assert!(!both.contains("TEST-PASS") && !both.contains("BAY-7"));
+    let secrets = Form {
+        with_state: true,
+        secrets: true,
+    };
+    let whole = shown_in(&network, secrets);
+    assert!(whole.contains("BAY-7"));
+    let both = both + &whole;
     let trials = answers(&repository("crates/trials/data/trials.list"), false);
     assert!(trials + &both == repository("crates/trials/stdout"));
     assert!(both.lines().all(|line| columns(line) <= 100));

@@ -1,5 +1,7 @@
 //! broken N [SEED] --replay PATH: makes N broken lists, and runs each through
-//! the Rust's front end and through the program at PATH, plain and shown.
+//! the Rust's front end and through the program at PATH, plain and shown, whole
+//! and without what is withheld. A twin of each, with other texts in its network
+//! replies, must be shown alike.
 
 use std::ffi::OsString;
 use std::process::ExitCode;
@@ -23,6 +25,7 @@ struct Counts {
     refused: usize,
     with_bad_lines: usize,
     differing: usize,
+    other_texts: usize,
 }
 
 fn main() -> ExitCode {
@@ -33,11 +36,13 @@ fn main() -> ExitCode {
     let (mut lists, mut counts) = (Broken::new(task.seed), Counts::default());
     for number in 1..=task.lists {
         let list = lists.list();
-        match broken::fault(&task.program, &list) {
-            Ok(None) => counts.add(&list),
+        let (twin, others) = lists.twin(&list);
+        match broken::fault(&task.program, &list, &twin) {
+            Ok(None) => counts.add(&list, others),
             Ok(Some(fault)) => {
                 println!("seed {}, list {number}: {fault}", task.seed);
                 println!("{}", String::from_utf8_lossy(&list));
+                println!("its twin:\n{}", String::from_utf8_lossy(&twin));
                 return ExitCode::FAILURE;
             }
             Err(error) => {
@@ -57,16 +62,19 @@ fn main() -> ExitCode {
         refused,
         with_bad_lines,
         differing,
+        other_texts,
     } = counts;
     println!("{lines} lines, {answers} answers, {bad_lines} of them bad lines, {refused} refused");
     println!("{with_bad_lines} lists with a bad line (status 1), the others without (status 0)");
     println!("{differing} feeds of an arm that the Rust isn't handed: there the rules differ");
+    println!("{other_texts} network replies with another text in a twin: shown alike");
     ExitCode::SUCCESS
 }
 
 impl Counts {
-    fn add(&mut self, list: &[u8]) {
-        let answers = broken::expected(list, false);
+    fn add(&mut self, list: &[u8], others: usize) {
+        self.other_texts += others;
+        let answers = broken::expected(list, None);
         let text = String::from_utf8_lossy(&answers.output);
         self.lines += list.split(|b| *b == b'\n').count();
         self.with_bad_lines += usize::from(answers.status == "1");

@@ -1,7 +1,8 @@
-//! compare N [SEED] --replay PATH [--only SEQUENCE] [--bad] [--show]: runs N
-//! calls of each sequence and model, and N of a DSP with rigs, through the Rust
-//! and through the program at PATH; with --show both show the lists to people.
-//! A run of an arm ends before a text on which the rules differ.
+//! compare N [SEED] --replay PATH [--only SEQUENCE] [--bad] [--show [--secrets]]:
+//! runs N calls of each sequence and model, and N of a DSP with rigs, through
+//! the Rust and through the program at PATH; with --show both show the lists to
+//! people, with --secrets whole. A run of an arm ends before a text on which the
+//! rules differ.
 
 use std::io;
 use std::process::ExitCode;
@@ -11,8 +12,10 @@ use oracle::compare::{Difference, LIST_LINES, LONG_ARM_CALLS, Program, Source};
 use oracle::coverage::Coverage;
 use oracle::generate::{LEANINGS, Leaning, RIGS};
 use oracle::list::Which;
+use oracle::show::Form;
 
-const USAGE: &str = "usage: compare N [SEED] --replay PATH [--only SEQUENCE] [--bad] [--show]
+const USAGE: &str =
+    "usage: compare N [SEED] --replay PATH [--only SEQUENCE] [--bad] [--show [--secrets]]
 SEQUENCE: dsp, avr, pi, avr_config, disarm or arm";
 
 /// The lines that are shown of a list with a difference.
@@ -64,7 +67,7 @@ fn main() -> ExitCode {
 
 fn task() -> Option<Task> {
     let (mut numbers, mut path) = (Vec::new(), None);
-    let (mut bad, mut shown) = (false, false);
+    let (mut bad, mut shown, mut secrets) = (false, false, false);
     let mut of = Which::ALL.to_vec();
     let mut args = std::env::args_os().skip(1);
     while let Some(arg) = args.next() {
@@ -73,6 +76,7 @@ fn task() -> Option<Task> {
             "--only" => of = vec![Which::of_word(args.next()?.to_str()?)?],
             "--bad" => bad = true,
             "--show" => shown = true,
+            "--secrets" => secrets = true,
             number => numbers.push(number.parse().ok()?),
         }
     }
@@ -81,6 +85,14 @@ fn task() -> Option<Task> {
         [calls, seed] => (calls, seed),
         _ => return None,
     };
+    if secrets && !shown {
+        return None;
+    }
+    let form = Form {
+        with_state: true,
+        secrets,
+    };
+    let shown = shown.then_some(form);
     Some(Task {
         calls,
         seed,

@@ -16,12 +16,14 @@ mod random;
 mod readings;
 mod settings;
 mod sheets;
+mod twins;
 
 pub use bad::BadLines;
 pub use bytes::device_info;
 use caller::Caller;
 use long_arm::LongArm;
 pub use random::Random;
+pub use twins::twin;
 
 use crate::list::Which;
 use crate::protocol::handshake::DeviceModel;

@@ -49,6 +49,16 @@ pub fn kind(c: &mut Cursor, src: BusAddr, type_id: u8) -> Result<Message, Bad> {
     })
 }
 
+/// Whether the word is a kind, and not a network reply's.
+pub fn is_another(word: &[u8]) -> bool {
+    let unknown = Bad::at(0, Reason::UnknownKind);
+    match kind(&mut Cursor::new(word), BusAddr::App, 0) {
+        Ok(message) => !matches!(message, Message::NetConfigResp(_)),
+        // A field is missing, or the second word of a status.
+        Err(bad) => bad != unknown,
+    }
+}
+
 fn avr_status(c: &mut Cursor) -> Result<AvrStatus, Bad> {
     Ok(AvrStatus {
         version: c.number_field("version")?,

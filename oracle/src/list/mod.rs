@@ -21,6 +21,26 @@ pub const LONGEST: usize = 65_536;
 /// The most bytes that are lent for a sheet.
 pub const MOST_LENT: usize = 1024;
 
+/// The words that calls begin with, but for a feed's.
+const CALLS: [&[u8]; 16] = [
+    b"dsp",
+    b"avr",
+    b"pi",
+    b"avr_config",
+    b"mode_only",
+    b"mevo_settings",
+    b"disarm",
+    b"arm",
+    b"check",
+    b"result",
+    b"sheet",
+    b"take",
+    b"retries",
+    b"ack",
+    b"keepalive",
+    b"model",
+];
+
 /// A call of a list.
 pub enum Call {
     Begin(Begin),
@@ -111,6 +131,22 @@ pub fn read(line: &[u8], running: Option<Which>) -> Result<Option<Call>, Bad> {
     };
     c.end()?;
     Ok(Some(call))
+}
+
+/// Whether it feeds a network reply.
+pub fn is_network_reply(feed: &Feed) -> bool {
+    matches!(feed.message, Message::NetConfigResp(_))
+}
+
+/// Whether a line, of which not all need be readable, names another call than
+/// a feed, or where its kind stands another kind than a network reply.
+pub fn names_another(line: &[u8]) -> bool {
+    let words = line.split(|b| matches!(b, b' ' | b'\t'));
+    let mut words = words.filter(|word| !word.is_empty());
+    match words.next() {
+        Some(b"feed") => words.nth(3).is_some_and(kind::is_another),
+        first => first.is_some_and(|word| CALLS.contains(&word)),
+    }
 }
 
 /// A call of a sequence can't be read while none runs, or one without it.
