@@ -45,7 +45,10 @@ mod refusal;
 mod settings;
 mod sheet;
 mod steps;
+mod withheld;
 
+#[cfg(test)]
+mod debug;
 #[cfg(test)]
 mod handed_back;
 #[cfg(test)]

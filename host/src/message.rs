@@ -2,8 +2,11 @@
 //! the Rust; the library takes both as bytes. A record that is marked
 //! `repr(C)` crosses to the library as it is.
 
+use std::fmt;
+
 use crate::addr::BusAddr;
 use crate::device::DeviceModel;
+use crate::withheld::Withheld;
 
 /// A message with its source and its type's number on the wire.
 #[derive(Debug, Clone, PartialEq)]
@@ -241,11 +244,21 @@ pub struct ProdInfoResp {
     pub text: String,
 }
 
-/// The camera's network.
-#[derive(Debug, Clone, Default, PartialEq, Eq)]
+/// The camera's network. `Debug` doesn't print it.
+#[derive(Clone, Default, PartialEq, Eq)]
 pub struct NetConfigResp {
     /// Its name and, after a zero byte, its password.
     pub text: String,
+}
+
+impl fmt::Debug for NetConfigResp {
+    fn fmt(&self, f: &mut fmt::Formatter<'_>) -> fmt::Result {
+        // all fields, so that one more isn't forgotten
+        let Self { text: _ } = self;
+        f.debug_struct("NetConfigResp")
+            .field("text", &Withheld)
+            .finish()
+    }
 }
 
 /// Calibration parameters, kept undecoded.

@@ -1,5 +1,7 @@
 //! The Pi start-up.
 
+use std::fmt;
+
 use crate::command::Action;
 use crate::convert;
 use crate::ffi;
@@ -8,13 +10,14 @@ use crate::records::CPi;
 use crate::refusal::Refusal;
 use crate::sheet::{self, Tick};
 use crate::steps;
+use crate::withheld::Withheld;
 
 /// The start-up of the camera's Pi.
 #[derive(Debug, Clone)]
 pub struct PiSequencer(CPi);
 
-/// What a Pi start-up gives.
-#[derive(Debug, Clone, PartialEq)]
+/// What a Pi start-up gives. `Debug` doesn't print the network.
+#[derive(Clone, PartialEq)]
 pub struct PiSync {
     /// Device info.
     pub dev_info: DevInfoResp,
@@ -26,8 +29,25 @@ pub struct PiSync {
     pub password: String,
 }
 
-/// What a Pi start-up has stored so far.
-#[derive(Debug, Clone, PartialEq)]
+impl fmt::Debug for PiSync {
+    fn fmt(&self, f: &mut fmt::Formatter<'_>) -> fmt::Result {
+        let Self {
+            dev_info,
+            cam_config,
+            ssid: _,
+            password: _,
+        } = self;
+        f.debug_struct("PiSync")
+            .field("dev_info", dev_info)
+            .field("cam_config", cam_config)
+            .field("ssid", &Withheld)
+            .field("password", &Withheld)
+            .finish()
+    }
+}
+
+/// What a Pi start-up has stored so far. `Debug` doesn't print the network.
+#[derive(Clone, PartialEq)]
 pub struct PiState {
     /// The step's name in seq.rs.
     pub step: &'static str,
@@ -43,6 +63,29 @@ pub struct PiState {
     pub password: String,
     /// The entries ticked so far.
     pub ticks: Vec<Tick>,
+}
+
+impl fmt::Debug for PiState {
+    fn fmt(&self, f: &mut fmt::Formatter<'_>) -> fmt::Result {
+        let Self {
+            step,
+            idx,
+            dev_info,
+            cam_config,
+            ssid: _,
+            password: _,
+            ticks,
+        } = self;
+        f.debug_struct("PiState")
+            .field("step", step)
+            .field("idx", idx)
+            .field("dev_info", dev_info)
+            .field("cam_config", cam_config)
+            .field("ssid", &Withheld)
+            .field("password", &Withheld)
+            .field("ticks", ticks)
+            .finish()
+    }
 }
 
 impl PiSequencer {
@@ -86,8 +129,8 @@ impl PiSequencer {
         Ok(PiSync {
             dev_info: sync.dev_info.value(),
             cam_config: sync.cam_config,
-            ssid: sync.ssid.text(),
-            password: sync.password.text(),
+            ssid: sync.ssid.0.text(),
+            password: sync.password.0.text(),
         })
     }
 
@@ -120,8 +163,8 @@ impl PiSequencer {
             idx: step.idx,
             dev_info: r.dev_info.some.then(|| r.dev_info.value.value()),
             cam_config: r.cam_config.some.then_some(r.cam_config.value),
-            ssid: r.ssid.text(),
-            password: r.password.text(),
+            ssid: r.ssid.0.text(),
+            password: r.password.0.text(),
             ticks: self.0.ticks.value(),
         }
     }

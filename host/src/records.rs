@@ -8,6 +8,7 @@ use crate::device::DeviceModel;
 use crate::message::{
     AvrStatus, CamConfig, ConfigAck, ConfigResp, DspQueryResp, DspStatus80, ModeSet, RadarCal,
 };
+use crate::withheld::Withheld;
 
 /// The places of a settings list.
 pub const MAX_PARAMS: usize = 32;
@@ -46,6 +47,18 @@ impl Stored {
 impl fmt::Debug for Stored {
     fn fmt(&self, f: &mut fmt::Formatter<'_>) -> fmt::Result {
         self.as_slice().fmt(f)
+    }
+}
+
+/// The name or the password of the camera's network. `Debug` doesn't print it,
+/// so nor does that of a record that holds it.
+#[repr(transparent)]
+#[derive(Clone, Copy, PartialEq)]
+pub struct Secret(pub Stored);
+
+impl fmt::Debug for Secret {
+    fn fmt(&self, f: &mut fmt::Formatter<'_>) -> fmt::Result {
+        Withheld.fmt(f)
     }
 }
 
@@ -315,8 +328,8 @@ records! {
     CPiReplies {
         dev_info: COptionDevInfoResp,
         cam_config: COptionCamConfig,
-        ssid: Stored,
-        password: Stored,
+        ssid: Secret,
+        password: Secret,
     }
 
     CPiStep {
@@ -339,8 +352,8 @@ records! {
     CPiSync {
         dev_info: CDevInfoResp,
         cam_config: CamConfig,
-        ssid: Stored,
-        password: Stored,
+        ssid: Secret,
+        password: Secret,
     }
 
     CPiFinished {
