@@ -1,0 +1,3 @@
+mod Follows
+mod Heard
+pub mod Whole

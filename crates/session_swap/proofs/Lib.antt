@@ -1,0 +1,4 @@
+mod Deaf
+mod Parts
+mod Sends
+mod Swapped
