@@ -3,3 +3,4 @@ pub mod Fed
 pub mod Untimed
 pub mod Timed
 pub mod Sheets
+pub mod Session

@@ -1,4 +1,4 @@
-// The host's library: every call of the six sequences, the model and the single sends, as functions that C or Rust can link
+// The host's library: every call of the six sequences and of the session, the model and the single sends, as functions that C or Rust can link
 // (`rt lib`). Each answers as the call that it stands for; numbers that no case has are refused with 21. A refused call sends nothing, and
 // gives back the very state that it was handed.
 #![tactic(auto)]
@@ -9,9 +9,10 @@ mod c_avr_config;
 mod c_disarm;
 mod c_dsp;
 mod c_pi;
+mod c_session;
 mod fed;
 mod sends;
 mod written;
 
-// A number that no case has: a kind, a device, a step, a layout, a format or how an entry was ticked.
+// A number that no case has: a kind, a device, a step, a layout, a format, how an entry was ticked or a start-up.
 const UNKNOWN: u8 = 21;
