@@ -80,6 +80,6 @@ impl Sequence for ArmCalls {
 
     fn state(&self, out: &mut Text) -> io::Result<()> {
         let (retries, wait_pi) = (self.arm.retries, self.arm.wait_pi);
-        write!(out, "; state retries={retries} wait_pi={wait_pi}")
+        write!(out, " retries={retries} wait_pi={wait_pi}")
     }
 }

@@ -1,7 +1,7 @@
 // The calls of an AVR start-up, and what they answer.
 #![tactic(auto)]
 
-mod stored;
+pub mod stored;
 
 use avr::AvrSequencer;
 use avr_table::AvrStep;
@@ -21,7 +21,7 @@ pub struct AvrCalls {
 
 // A step as it is written: its name.
 #[derive(Clone, Copy)]
-pub struct Step(AvrStep);
+pub struct Step(pub AvrStep);
 
 impl fmt::Display for Step {
     fn fmt<W: fmt::Write>(&self, f: &mut fmt::Formatter<W>) -> fmt::Result {
@@ -40,6 +40,13 @@ impl fmt::Display for Step {
             AvrStep::WaitTimeSync => "WaitTimeSync",
             AvrStep::Done => "Done",
         })
+    }
+}
+
+impl Step {
+    // The place of the entry that is awaited, from 0: each step has one entry.
+    pub fn entry(self) -> usize {
+        self.0 as usize
     }
 }
 
@@ -68,9 +75,8 @@ impl Steps for AvrCalls {
         Step(self.avr.state.step)
     }
 
-    // Each step has one entry.
     fn entry(&self) -> Option<usize> {
-        Some(self.avr.state.step as usize)
+        Some(self.step().entry())
     }
 }
 

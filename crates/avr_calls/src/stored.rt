@@ -41,8 +41,8 @@ fn last_replies<W: Write>(
     payload(out, "avr_config", avr_config.as_ref().map(|r| &r.payload))
 }
 
+// The fields of a result.
 pub fn sync<W: Write>(out: &mut W, s: &AvrSync) -> io::Result<()> {
-    write!(out, ";")?;
     status(out, &s.status)?;
     records::dev_info(out, &s.dev_info)?;
     records::config(out, &s.config)?;
@@ -58,7 +58,7 @@ fn replies<W: Write>(out: &mut W, r: &AvrReplies) -> io::Result<()> {
 
 // Every stored field.
 pub fn state<W: Write>(out: &mut W, avr: &AvrSequencer) -> io::Result<()> {
-    write!(out, "; state last={}", avr.last)?;
+    write!(out, " last={}", avr.last)?;
     replies(out, &avr.state.replies)?;
     records::instant(out, "cal_deadline", &avr.state.cal_deadline)?;
     records::instant(out, "repoll_at", &avr.state.repoll_at)?;

@@ -15,7 +15,7 @@ fn radar_cal<W: Write>(out: &mut W, cal: &RadarCal) -> io::Result<()> {
 
 // Every stored field.
 pub fn state<W: Write>(out: &mut W, s: &AvrSettings) -> io::Result<()> {
-    write!(out, "; state mode={} params={}", s.mode, s.len)?;
+    write!(out, " mode={} params={}", s.mode, s.len)?;
     for param in s.params.iter().take(s.len) {
         send::param(out, *param)?;
     }

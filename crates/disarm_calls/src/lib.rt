@@ -3,7 +3,6 @@
 
 use disarm::{DisarmSequencer, DisarmStep};
 use reading::{Calls, Feed};
-use std::io::Write;
 use std::{fmt, io};
 use streams::answers::Text;
 use streams::running::{FEED_ALONE, Sequence, Steps, feed_by};
@@ -66,7 +65,7 @@ impl Sequence for DisarmCalls {
     }
 
     // It stores nothing but its step.
-    fn state(&self, out: &mut Text) -> io::Result<()> {
-        out.write_all(b"; state")
+    fn state(&self, _out: &mut Text) -> io::Result<()> {
+        Ok(())
     }
 }

@@ -1,7 +1,7 @@
 // The calls of a DSP start-up, and what they answer.
 #![tactic(auto)]
 
-mod stored;
+pub mod stored;
 
 use dsp::DspSequencer;
 use dsp_table::DspStep;
@@ -20,7 +20,7 @@ pub struct DspCalls {
 
 // A step as it is written: its name.
 #[derive(Clone, Copy)]
-pub struct Step(DspStep);
+pub struct Step(pub DspStep);
 
 impl fmt::Display for Step {
     fn fmt<W: fmt::Write>(&self, f: &mut fmt::Formatter<W>) -> fmt::Result {
@@ -35,6 +35,13 @@ impl fmt::Display for Step {
             DspStep::WaitPowerMode => "WaitPowerMode",
             DspStep::Done => "Done",
         })
+    }
+}
+
+impl Step {
+    // The place of the entry that is awaited, from 0: each step has one entry.
+    pub fn entry(self) -> usize {
+        self.0 as usize
     }
 }
 
@@ -60,9 +67,8 @@ impl Steps for DspCalls {
         Step(self.dsp.state.step)
     }
 
-    // Each step has one entry.
     fn entry(&self) -> Option<usize> {
-        Some(self.dsp.state.step as usize)
+        Some(self.step().entry())
     }
 }
 

@@ -29,8 +29,8 @@ fn place<W: Write>(out: &mut W, place: &usize) -> io::Result<()> {
     write!(out, " tag_place={place}")
 }
 
+// The fields of a result.
 pub fn sync<W: Write>(out: &mut W, s: &DspSync) -> io::Result<()> {
-    write!(out, ";")?;
     records::status(out, &s.status, &s.status_payload)?;
     fields::optional(out, "hw_info", &s.hw_info, records::hw_info)?;
     records::dev_info(out, &s.dev_info)?;
@@ -52,7 +52,7 @@ fn replies<W: Write>(out: &mut W, r: &DspReplies) -> io::Result<()> {
 // Every stored field.
 pub fn state<W: Write>(out: &mut W, dsp: &DspSequencer) -> io::Result<()> {
     let r = &dsp.state.replies;
-    write!(out, "; state last={}", dsp.last)?;
+    write!(out, " last={}", dsp.last)?;
     replies(out, r)?;
     records::instant(out, "deadline", &dsp.state.deadline)?;
     fields::optional(out, "refused", &r.refused, refused)?;

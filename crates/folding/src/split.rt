@@ -50,6 +50,16 @@ pub fn is_step(s: &[u8]) -> bool
     s.starts_with(b"Wait") || s.starts_with(b"Done")
 }
 
+// The step in an answer of a session, behind the letter of its sequence.
+pub fn step_of(answer: &[u8], letter: u8) -> Option<&[u8]> {
+    let mut texts = Texts::new();
+    let mut parts = answer.split(|b| texts.outside(*b) && *b == b';');
+    parts.find_map(|part| match part.trim_ascii_start() {
+        [own, b' ', step @ ..] if *own == letter && is_step(step) => Some(step),
+        _ => None,
+    })
+}
+
 // The step in an answer.
 pub fn step(answer: &[u8]) -> Option<&[u8]> {
     let mut texts = Texts::new();

@@ -9,6 +9,7 @@ use disarm_calls::DisarmCalls;
 use dsp_calls::DspCalls;
 use pi_calls::PiCalls;
 use reading::Sequence;
+use session_calls::SessionCalls;
 use std::alloc::Global;
 use std::io::{Read, Write};
 use streams::answers::Form;
@@ -21,7 +22,7 @@ fn answer<R: Read + Drop, W: Write + Drop>(
     list: &mut List<R, W>,
 ) -> Result<Option<Sequence>, Failure> {
     let out = &mut list.answers.answer;
-    // six arms, since each begins a sequence of its own type
+    // seven arms, since each begins a sequence of its own type
     match sequence {
         Sequence::Dsp => {
             let dsp = DspCalls::begin(out)?;
@@ -46,6 +47,10 @@ fn answer<R: Read + Drop, W: Write + Drop>(
         Sequence::Arm(model) => {
             let arm = ArmCalls::begin(model, out)?;
             begin(arm, list)
+        }
+        Sequence::Session => {
+            let session = SessionCalls::begin(out)?;
+            begin(session, list)
         }
     }
 }

@@ -2,7 +2,7 @@
 #![tactic(auto)]
 
 mod camera;
-mod stored;
+pub mod stored;
 
 use pi::PiSequencer;
 use pi_table::PiStep;
@@ -21,7 +21,7 @@ pub struct PiCalls {
 
 // A step as it is written: its name, with its fields.
 #[derive(Clone, Copy)]
-pub struct Step(PiStep);
+pub struct Step(pub PiStep);
 
 impl fmt::Display for Step {
     fn fmt<W: fmt::Write>(&self, f: &mut fmt::Formatter<W>) -> fmt::Result {
@@ -36,6 +36,23 @@ impl fmt::Display for Step {
             PiStep::WaitParams { idx } => return write!(f, "WaitParams idx={idx}"),
             PiStep::Done => "Done",
         })
+    }
+}
+
+impl Step {
+    // The place of the entry that is awaited, from 0. Of the last step each parameter has an entry. By a `match`, since a step with a field has no `as`.
+    pub fn entry(self) -> usize {
+        match self.0 {
+            PiStep::WaitStatus => 0,
+            PiStep::WaitDevInfo => 1,
+            PiStep::WaitParam0A => 2,
+            PiStep::WaitCamConfig1 => 3,
+            PiStep::WaitCamConfig2 => 4,
+            PiStep::WaitNetConfig => 5,
+            PiStep::WaitNetConfigPw => 6,
+            PiStep::WaitParams { idx } => idx.saturating_add(7),
+            PiStep::Done => 16,
+        }
     }
 }
 
@@ -61,19 +78,8 @@ impl Steps for PiCalls {
         Step(self.pi.step)
     }
 
-    // Of the last step each parameter has an entry. By a `match`, since a step with a field has no `as`.
     fn entry(&self) -> Option<usize> {
-        Some(match self.pi.step {
-            PiStep::WaitStatus => 0,
-            PiStep::WaitDevInfo => 1,
-            PiStep::WaitParam0A => 2,
-            PiStep::WaitCamConfig1 => 3,
-            PiStep::WaitCamConfig2 => 4,
-            PiStep::WaitNetConfig => 5,
-            PiStep::WaitNetConfigPw => 6,
-            PiStep::WaitParams { idx } => idx.saturating_add(7),
-            PiStep::Done => 16,
-        })
+        Some(self.step().entry())
     }
 }
 

@@ -17,8 +17,8 @@ fn network(out: &mut Text, ssid: &Stored, password: &Stored) -> io::Result<()> {
     fields::stored(out, "password", password)
 }
 
+// The fields of a result.
 pub fn sync(out: &mut Text, s: &PiSync) -> io::Result<()> {
-    write!(out, ";")?;
     records::dev_info(out, &s.dev_info)?;
     camera::config(out, &s.cam_config)?;
     network(out, &s.ssid, &s.password)
@@ -27,7 +27,6 @@ pub fn sync(out: &mut Text, s: &PiSync) -> io::Result<()> {
 // Every stored field.
 pub fn state(out: &mut Text, pi: &PiSequencer) -> io::Result<()> {
     let r = &pi.replies;
-    write!(out, "; state")?;
     fields::optional(out, "dev_info", &r.dev_info, records::dev_info)?;
     fields::optional(out, "cam_config", &r.cam_config, camera::config)?;
     network(out, &r.ssid, &r.password)?;

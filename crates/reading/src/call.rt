@@ -8,6 +8,7 @@ use device::model::DeviceModel;
 use messages::{message, params};
 use protocol::{BusAddr, Message};
 use settings::AvrSettings;
+use sheet::StartUp;
 use std::alloc::{AllocError, Global};
 use words::{Bad, LINE, Reader, Reason, Value, named};
 
@@ -22,6 +23,8 @@ pub enum Sequence {
     Disarm,
     // with the model, if one is given
     Arm(Option<DeviceModel>),
+    // of a whole unit: it runs three sequences, and stands here as one
+    Session,
 }
 
 // What a call is lent: bytes, and the settings of a run that it begins. Only a line that is too long could have more bytes than there is room for.
@@ -45,7 +48,7 @@ impl Lent {
     }
 }
 
-// The calls that a sequence has beside `feed`, which each has.
+// The calls that a sequence has beside `feed`, which each has. A sheet is that of the start-up that runs, or of one that the call names.
 #[derive(Clone, Copy)]
 pub struct Calls {
     pub check: bool,
@@ -53,6 +56,7 @@ pub struct Calls {
     pub take: bool,
     pub retries: bool,
     pub sheet: bool,
+    pub sheet_of: bool,
 }
 
 // An envelope and a line's clocks, which no envelope of the crates below the programs has.
@@ -98,8 +102,8 @@ pub enum Call<'b> {
     Result,
     Take,
     Retries,
-    // with the buffer, if the call names one
-    Sheet(Option<SheetBuffer>),
+    // of which start-up, where more than one may run, and with the buffer, if the call names one
+    Sheet(Option<StartUp>, Option<SheetBuffer>),
     Device(DeviceCall<'b>),
 }
 
@@ -114,6 +118,7 @@ enum Begin {
     MevoSettings,
     Disarm,
     Arm,
+    Session,
 }
 
 // The calls, without what stands behind their names.
@@ -131,7 +136,7 @@ enum Name {
     Model,
 }
 
-const NAMES: [(&str, Name); 17] = [
+const NAMES: [(&str, Name); 18] = [
     ("feed", Name::Feed),
     ("dsp", Name::Begin(Begin::Dsp)),
     ("avr", Name::Begin(Begin::Avr)),
@@ -141,6 +146,7 @@ const NAMES: [(&str, Name); 17] = [
     ("mevo_settings", Name::Begin(Begin::MevoSettings)),
     ("disarm", Name::Begin(Begin::Disarm)),
     ("arm", Name::Begin(Begin::Arm)),
+    ("session", Name::Begin(Begin::Session)),
     ("check", Name::Check),
     ("result", Name::Result),
     ("take", Name::Take),
@@ -226,6 +232,31 @@ fn sheet_buffer(reader: &mut Reader<'_>) -> Result<Option<SheetBuffer>, Bad> {
     Ok(Some(SheetBuffer { at, len }))
 }
 
+// A start-up by its letter. A struct, since `Value` may not stand beside an enum of another crate.
+struct Letter(StartUp);
+
+impl Value for Letter {
+    fn read(word: &[u8]) -> Result<Letter, Reason> {
+        Ok(Letter(match word {
+            b"D" => StartUp::Dsp,
+            b"A" => StartUp::Avr,
+            b"P" => StartUp::Pi,
+            _ => return Err(Reason::UnknownStartUp),
+        }))
+    }
+}
+
+// A call for a sheet: of a session with the letter of the start-up.
+fn read_sheet(reader: &mut Reader<'_>, running: Option<Calls>) -> Result<Call<'static>, Bad> {
+    its_call(running.map(|calls| calls.sheet || calls.sheet_of))?;
+    let mut start_up = None;
+    if running.is_some_and(|calls| calls.sheet_of) {
+        let Letter(named) = reader.next()?;
+        start_up = Some(named);
+    }
+    Ok(Call::Sheet(start_up, sheet_buffer(reader)?))
+}
+
 fn ack(reader: &mut Reader<'_>) -> Result<DeviceCall<'static>, Bad> {
     Ok(DeviceCall::Ack(reader.next()?, reader.next()?, reader.next()?))
 }
@@ -271,10 +302,7 @@ fn read_call<'b>(
             its_call(running.map(|calls| calls.retries))?;
             Ok(Call::Retries)
         }
-        Name::Sheet => {
-            its_call(running.map(|calls| calls.sheet))?;
-            Ok(Call::Sheet(sheet_buffer(reader)?))
-        }
+        Name::Sheet => read_sheet(reader, running),
         Name::Ack => Ok(Call::Device(ack(reader)?)),
         Name::Keepalive => Ok(Call::Device(keepalive(reader)?)),
     }
@@ -295,6 +323,7 @@ fn read_sequence(
         Begin::MevoSettings => mevo_settings(reader)?,
         Begin::Disarm => return Ok(Sequence::Disarm),
         Begin::Arm => return Ok(Sequence::Arm(given_model(reader)?)),
+        Begin::Session => return Ok(Sequence::Session),
     };
     Ok(Sequence::AvrConfig)
 }

@@ -7,7 +7,7 @@ use std::io;
 use std::io::Write;
 
 // The columns before an answer, and before what is folded of it.
-const INDENT: usize = 4;
+pub const INDENT: usize = 4;
 
 const HANG: usize = 8;
 
@@ -80,7 +80,7 @@ impl Shown {
     }
 
     // A part that says nothing of whether the call was accepted. A disarm's state has no fields, and isn't shown.
-    fn other<W: Write>(&self, out: &mut W, s: &[u8]) -> io::Result<()> {
+    pub fn other<W: Write>(&self, out: &mut W, s: &[u8]) -> io::Result<()> {
         if split::is_step(s) {
             return self.awaited(out, s);
         }
@@ -109,7 +109,7 @@ impl Shown {
     // The reading of a feed or check where it is looked at.
     fn clock<W: Write>(&self, out: &mut W) -> io::Result<()> {
         match (self.sequence, self.reading) {
-            (Some(Sequence::Dsp | Sequence::Avr), Some(now)) => {
+            (Some(Sequence::Dsp | Sequence::Avr | Sequence::Session), Some(now)) => {
                 fold::blanks(out, INDENT)?;
                 write!(out, "reading ")?;
                 fields::reading(out, now)
@@ -127,6 +127,8 @@ impl Shown {
                 self.accepted(out, plain)?;
             } else if let Some(number) = s.strip_prefix(b"refused ") {
                 refused(out, s, number)?;
+            } else if self.sequence == Some(Sequence::Session) {
+                self.of_session(out, plain, s)?;
             } else {
                 self.other(out, s)?;
             }
@@ -154,6 +156,10 @@ impl Shown {
             self.refused = self.refused.saturating_add(1);
         }
         self.clock(out)?;
-        self.parts(out, plain)
+        self.parts(out, plain)?;
+        if self.sequence == Some(Sequence::Session) {
+            self.follow(plain);
+        }
+        Ok(())
     }
 }

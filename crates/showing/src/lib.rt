@@ -7,6 +7,7 @@ ghost use Rattle.showing.specs.Shown.{first_shown, with_call, with_sequence, wit
 
 mod answer;
 mod fields;
+mod session;
 mod summary;
 pub mod tables;
 
@@ -30,6 +31,8 @@ pub struct Shown {
     moved: bool,
     // the reading, if the call is a feed or check of it
     reading: Option<u64>,
+    // the steps of a session's sequences: `None` of one that has not begun
+    steps: [Option<Step>; 3],
 }
 
 impl Shown {
@@ -46,6 +49,7 @@ impl Shown {
             begins: false,
             moved: false,
             reading: None,
+            steps: [None, None, None],
         }
     }
 
@@ -64,6 +68,7 @@ impl Shown {
     {
         self.begins = true;
         self.sequence = Some(sequence);
+        self.steps = [None, None, None];
     }
 
     // The call is a feed or check with this reading.

@@ -1,6 +1,6 @@
 // What a list comes to.
 use crate::Shown;
-use crate::tables::Step;
+use crate::tables::{Sequence, Step};
 use folding::fold;
 use std::io;
 use std::io::Write;
@@ -16,7 +16,7 @@ fn plural(n: u64) -> &'static str {
     "s"
 }
 
-// What the last sequence waits for.
+// What a sequence waits for.
 fn not_done<W: Write>(out: &mut W, name: &str, step: &str, awaited: &str) -> io::Result<()> {
     let mut column = 0usize;
     for text in [name, " is not done: ", step, " waits for "] {
@@ -24,6 +24,15 @@ fn not_done<W: Write>(out: &mut W, name: &str, step: &str, awaited: &str) -> io:
         column = column.saturating_add(text.len());
     }
     fold::rest(out, awaited.as_bytes(), column, HANG)
+}
+
+// Whether a sequence is done, or what it waits for.
+pub fn ended<W: Write>(out: &mut W, sequence: Sequence, at: Step) -> io::Result<()> {
+    if at.is_last() {
+        return writeln!(out, "{} is done", sequence.name());
+    }
+    let Step(step, awaited) = at;
+    not_done(out, sequence.name(), step, awaited)
 }
 
 impl Shown {
@@ -43,10 +52,8 @@ impl Shown {
     pub fn sum_up<W: Write>(&self, out: &mut W) -> io::Result<()> {
         self.counts(out)?;
         match (self.sequence, self.step) {
-            (Some(sequence), Some(Step(step, awaited))) if !awaited.is_empty() => {
-                not_done(out, sequence.name(), step, awaited)
-            }
-            (Some(sequence), _) => writeln!(out, "{} is done", sequence.name()),
+            (Some(Sequence::Session), _) => self.session_ended(out),
+            (Some(sequence), Some(step)) => ended(out, sequence, step),
             _ => Ok(()),
         }
     }

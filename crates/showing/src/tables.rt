@@ -12,6 +12,7 @@ pub enum Sequence {
     Settings,
     Disarm,
     Arm,
+    Session,
 }
 
 // A step, and what it waits for: nothing when it is done. The steps are texts: only the text of an answer is looked at here, and their enums stand in
@@ -133,9 +134,11 @@ impl Sequence {
             Sequence::Settings => "the settings run",
             Sequence::Disarm => "the disarm",
             Sequence::Arm => "the arm",
+            Sequence::Session => "the session",
         }
     }
 
+    // None of a session, whose sequences have them.
     fn steps(self) -> &'static [Step] {
         match self {
             Sequence::Dsp => &DSP,
@@ -144,6 +147,7 @@ impl Sequence {
             Sequence::Settings => &SETTINGS,
             Sequence::Disarm => &DISARM,
             Sequence::Arm => &ARM,
+            Sequence::Session => &[],
         }
     }
 
@@ -157,6 +161,11 @@ impl Sequence {
 }
 
 impl Step {
+    // Whether nothing is awaited any more.
+    pub fn is_last(self) -> bool {
+        self.1.is_empty()
+    }
+
     // Whether an answer's step is this one: it is the name, or goes on with its fields.
     fn is_in(&self, answered: &[u8]) -> bool {
         match answered.strip_prefix(self.0.as_bytes()) {

@@ -11,15 +11,15 @@ use std::io::{BufWriter, Write};
 use words::{Bad, LINE};
 
 // The bytes that are kept before they are written out. They are written once there are more than NEARLY_FULL: no answer is longer than the rest.
-const OUT: usize = 131_072;
+const OUT: usize = 163_840;
 
 const NEARLY_FULL: usize = 98_304;
 
 // The same before a line of a list that is shown: it takes up to 79,000 bytes, folded, and the mark and the answer come behind it.
 const ROOM_FOR_LINE: usize = 16_384;
 
-// The longest answers are results with the state of a DSP: some 10,400 bytes.
-const ANSWER: usize = 16_384;
+// The longest answers are results with the state of a session: some 26,000 bytes.
+const ANSWER: usize = 32_768;
 
 // How answers are written: whether for people, and then whether with what else is withheld; and whether with the stored state behind each.
 #[derive(Clone, Copy)]
@@ -108,6 +108,7 @@ fn shown_sequence(sequence: &reading::Sequence) -> showing::tables::Sequence {
         reading::Sequence::AvrConfig => showing::tables::Sequence::Settings,
         reading::Sequence::Disarm => showing::tables::Sequence::Disarm,
         reading::Sequence::Arm(_) => showing::tables::Sequence::Arm,
+        reading::Sequence::Session => showing::tables::Sequence::Session,
     }
 }
 
@@ -221,6 +222,7 @@ impl<W: Write + Drop> Answers<W> {
     // Ends the answer of a sequence, with every stored field if they are asked for.
     pub fn end_in<S: Sequence>(&mut self, running: &S) -> io::Result<()> {
         if self.with_state {
+            self.answer.write_all(b"; state")?;
             running.state(&mut self.answer)?;
         }
         self.end()

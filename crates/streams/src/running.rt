@@ -4,7 +4,7 @@ use crate::{Failure, List, device_calls, sheets};
 use protocol::{Action, BusAddr, Message, Refusal};
 use reading::{Call, Calls, Feed, read_line};
 use sequence::Answer;
-use sheet::SheetRefusal;
+use sheet::{SheetRefusal, StartUp};
 use std::fmt::Display;
 use std::io;
 use std::io::{Read, Write};
@@ -17,6 +17,7 @@ pub const FEED_ALONE: Calls = Calls {
     take: false,
     retries: false,
     sheet: false,
+    sheet_of: false,
 };
 
 // A sequence that runs. Each of its calls writes what it answers. Those that it doesn't have are never made.
@@ -44,6 +45,16 @@ pub trait Sequence {
 
     // Writes the sheet into a buffer, and not into the answer.
     fn sheet(&self, _buf: &mut [u8], _at: usize) -> Result<usize, SheetRefusal> {
+        Ok(0)
+    }
+
+    // The same where more than one start-up may run.
+    fn sheet_of(
+        &self,
+        _start_up: StartUp,
+        _buf: &mut [u8],
+        _at: usize,
+    ) -> Result<usize, SheetRefusal> {
         Ok(0)
     }
 
@@ -101,7 +112,7 @@ pub fn feed_by<
 }
 
 // The entry that a call has ticked, from 1, by the places from 0 of those awaited before and after it.
-fn ticked(before: Option<usize>, after: Option<usize>) -> Option<usize> {
+pub fn ticked(before: Option<usize>, after: Option<usize>) -> Option<usize> {
     if before == after {
         return None;
     }
@@ -141,7 +152,7 @@ fn answer<S: Sequence, W: Write + Drop>(
         Call::Result => running.result(out)?,
         Call::Take => running.take(out)?,
         Call::Retries => running.retries(out)?,
-        Call::Sheet(named) => sheets::answer(running, *named, out)?,
+        Call::Sheet(start_up, named) => sheets::answer(running, *start_up, *named, out)?,
         Call::Begin(_) => {}
     }
     answers.end_in(running)

@@ -2,6 +2,7 @@
 use crate::answers::Text;
 use crate::running::Sequence;
 use reading::{SHEET_BUFFER, SheetBuffer};
+use sheet::StartUp;
 use std::io;
 use writing::sheets;
 
@@ -12,13 +13,17 @@ const ROOM: usize = 512;
 // told, and else the sheet alone.
 pub fn answer<S: Sequence>(
     running: &S,
+    start_up: Option<StartUp>,
     named: Option<SheetBuffer>,
     out: &mut Text,
 ) -> io::Result<()> {
     let mut bytes = [b'.'; SHEET_BUFFER];
     let SheetBuffer { at, len } = named.unwrap_or(SheetBuffer { at: 0, len: ROOM });
     let buf = &mut bytes[..len.min(SHEET_BUFFER)];
-    let written = running.sheet(buf, at as usize);
+    let written = match start_up {
+        Some(start_up) => running.sheet_of(start_up, buf, at as usize),
+        None => running.sheet(buf, at as usize),
+    };
     sheets::outcome(out, &written)?;
     if named.is_some() {
         return sheets::text(out, "buffer", buf);

@@ -7,6 +7,7 @@ pub enum Reason {
     UnknownCall,
     UnknownModel,
     UnknownSource,
+    UnknownStartUp,
     UnknownKind,
     // a field's name, with its =
     Expected(&'static str),
@@ -42,6 +43,7 @@ impl fmt::Display for Reason {
             Reason::UnknownModel =>
                 "unknown model: Mevo, Xi or Rig expected, or the facts of another, as no/yes/yes",
             Reason::UnknownSource => "unknown source: App, Pi, Avr or Dsp expected",
+            Reason::UnknownStartUp => "unknown start-up: D, A or P expected",
             Reason::UnknownKind => {
                 "unknown kind: docs/REPLAY.md names them all, and capitals count"
             }

@@ -83,7 +83,7 @@ pub fn outcome<T, W: Write>(out: &mut W, outcome: &Result<T, Refusal>) -> io::Re
     }
 }
 
-// The result of a sequence, as `write` writes it, or why there is none yet.
+// The result of a sequence, its fields as `write` writes them, or why there is none yet.
 pub fn result<T, W: Write, F: FnOnce(&mut W, &T) -> io::Result<()>>(
     out: &mut W,
     finished: &Result<T, Refusal>,
@@ -93,7 +93,10 @@ pub fn result<T, W: Write, F: FnOnce(&mut W, &T) -> io::Result<()>>(
 {
     outcome(out, finished)?;
     match finished {
-        Ok(result) => write(out, result),
+        Ok(result) => {
+            write!(out, ";")?;
+            write(out, result)
+        }
         Err(_) => Ok(()),
     }
 }
