@@ -8,7 +8,7 @@ use std::thread;
 
 use crate::compare::{Source, as_text};
 use crate::front;
-use crate::generate::{LEANINGS, Random, twin};
+use crate::generate::{LEANINGS, Random, SESSIONS, twin};
 use crate::list::{self, Call, Which};
 use crate::show::{self, Form};
 
@@ -28,7 +28,7 @@ impl Broken {
     pub fn new(seed: u64) -> Self {
         let source = |leaning| Source::new(seed, leaning, false);
         Broken {
-            sources: LEANINGS.map(source).into(),
+            sources: LEANINGS.into_iter().chain([SESSIONS]).map(source).collect(),
             random: Random::new(!seed),
             of_twins: Random::new(seed),
         }

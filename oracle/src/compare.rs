@@ -6,7 +6,7 @@ use std::process::{Command, Stdio};
 use std::thread;
 
 use crate::armed;
-use crate::coverage::Coverage;
+use crate::coverage::{Coverage, Seen};
 use crate::front::Front;
 use crate::generate::{BadLines, Generator, LONG_ARM, Leaning};
 use crate::list::{self, Call, Which};
@@ -83,7 +83,7 @@ impl Source {
         }
         while self.coverage.calls < end && (list.lines.len() < lines || !self.generator.at_start())
         {
-            let line = self.generator.line(front.view());
+            let line = self.generator.next(front.view(), front.session());
             if let Some(bad) = self.bad_line(&line) {
                 self.put(bad, &mut front, &mut list);
             }
@@ -129,10 +129,11 @@ impl Source {
         if self.cut(&line, front.view()) {
             return;
         }
-        let (before, from) = (front.view(), list.answers.len());
+        let (before, from) = (Seen::of(front), list.answers.len());
         let read = front.line(line.as_bytes(), &mut list.answers);
         let answer = list.answers[from..].trim_end_matches('\n');
-        self.coverage.count(&read, before, front.view(), answer);
+        let after = Seen::of(front);
+        self.coverage.count(&read, before, after, answer);
         list.lines.push(line);
     }
 }

@@ -9,9 +9,10 @@ use crate::conn::Envelope;
 use crate::list::{self, Bad, Begin, Call};
 use crate::model::Model;
 use crate::protocol::Message;
-use crate::running::{Run, Running, Sequencer, View};
+use crate::running::{Run, Running, Sequencer, SessionView, View};
 use crate::seq::{self, Action};
 use crate::seq::{ArmSequencer, AvrSequencer, DisarmSequencer, DspSequencer, PiSequencer};
+use crate::session::Session;
 use crate::{avr_config, write};
 
 /// The state between two lines of a list.
@@ -34,6 +35,11 @@ impl Front {
 
     pub fn view(&self) -> Option<View> {
         self.running.as_ref().map(|running| running.view())
+    }
+
+    /// What there is of a session, if one runs.
+    pub fn session(&self) -> Option<SessionView> {
+        self.running.as_ref()?.session()
     }
 
     /// Writes the answer to a line, with a line feed; nothing to a comment.
@@ -73,6 +79,7 @@ impl Front {
             Call::Check { now } => self.sequence().check(*now, out),
             Call::Result => self.sequence().result(out),
             Call::Sheet { lent } => self.sequence().sheet(*lent, out),
+            Call::SheetOf { which, lent } => self.sequence().sheet_of(*which, *lent, out),
             Call::Take => self.sequence().take(out),
             Call::Retries => self.sequence().retries(out),
         }
@@ -99,6 +106,7 @@ impl Front {
             Begin::Disarm => begun(DisarmSequencer::new(), base, out),
             Begin::Arm(None) => begun(ArmSequencer::new(), base, out),
             Begin::Arm(Some(model)) => begun(ArmSequencer::new_for(model.by_camera()), base, out),
+            Begin::Session => Box::new(Session::begin(base, out)),
         });
     }
 }

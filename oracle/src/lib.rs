@@ -40,6 +40,7 @@ pub mod papers;
 mod pi;
 pub mod refusal;
 pub mod running;
+mod session;
 pub mod sheet;
 pub mod show;
 pub mod withheld;

@@ -133,6 +133,30 @@ pub fn has(payload: &[u8], tag: &[u8]) -> bool {
     payload.windows(tag.len()).any(|bytes| bytes == tag)
 }
 
+/// What a device-info payload has of the two tags.
+#[derive(Debug, Clone, Copy, PartialEq, Eq)]
+pub enum Tags {
+    Xi,
+    Rig,
+    Both,
+    /// One of them without its end.
+    CutShort,
+    Neither,
+}
+
+impl Tags {
+    pub fn of(payload: &[u8]) -> Tags {
+        let cut_short = |tag: &[u8]| has(payload, &tag[..tag.len() - 1]);
+        match (has(payload, XI_TAG), has(payload, RIG_TAG)) {
+            (true, false) => Tags::Xi,
+            (false, true) => Tags::Rig,
+            (true, true) => Tags::Both,
+            _ if cut_short(XI_TAG) || cut_short(RIG_TAG) => Tags::CutShort,
+            _ => Tags::Neither,
+        }
+    }
+}
+
 fn first(payload: &[u8], tag: &[u8]) -> Option<usize> {
     (0..payload.len()).find(|at| payload[*at..].starts_with(tag))
 }

@@ -14,6 +14,7 @@ fn heading(which: Which) -> &'static str {
         Which::AvrConfig => "Settings run; ",
         Which::Disarm => "Disarm; ",
         Which::Arm => "Arm:",
+        Which::Session => unreachable!("its start-ups have steps"),
     }
 }
 

@@ -4,6 +4,7 @@ use std::time::{Duration, Instant, SystemTime, UNIX_EPOCH};
 
 use crate::conn::Envelope;
 use crate::list::{Feed, Which};
+use crate::model::{Model, Tags};
 use crate::protocol::Message;
 use crate::protocol::handshake::DeviceModel;
 use crate::protocol::status::DspStatus;
@@ -18,12 +19,22 @@ pub trait Running {
     fn check(&mut self, now: u64, out: &mut String);
     fn result(&self, out: &mut String);
     fn sheet(&self, lent: Option<(u64, usize)>, out: &mut String);
+
+    fn sheet_of(&self, _which: Which, _lent: Option<(u64, usize)>, _out: &mut String) {
+        unreachable!("not a call of this sequence")
+    }
+
     fn take(&mut self, out: &mut String);
     fn retries(&self, out: &mut String);
     /// Every stored field, each after a blank.
     fn state(&self, out: &mut String);
     fn which(&self) -> Which;
     fn view(&self) -> View;
+
+    /// What more there is of a session.
+    fn session(&self) -> Option<SessionView> {
+        None
+    }
 }
 
 /// What the generator and the coverage look at.
@@ -45,6 +56,38 @@ pub struct View {
     pub retries: Option<u16>,
     /// How many bytes the sheet of a start-up has so far.
     pub sheet: Option<usize>,
+}
+
+/// What is looked at of a session. In its view stands the node of the picture
+/// in docs/MACHINES.md as a step.
+#[derive(Clone, Copy)]
+pub struct SessionView {
+    /// Those of its start-ups that have begun, in the order of
+    /// `Which::START_UPS`.
+    pub parts: [Option<Part>; 3],
+    /// What the DSP has found, once it is done.
+    pub found: Option<(Model, Tags)>,
+}
+
+impl SessionView {
+    pub fn part(&self, which: Which) -> Option<Part> {
+        self.parts
+            .into_iter()
+            .flatten()
+            .find(|part| part.which == which)
+    }
+}
+
+/// A start-up of a session.
+#[derive(Clone, Copy)]
+pub struct Part {
+    pub which: Which,
+    pub step: Step,
+    /// The last reading that it has heard; 0 at first.
+    pub last: u64,
+    pub deadline: Option<u64>,
+    pub repoll: Option<u64>,
+    pub sheet: usize,
 }
 
 /// A step's name in seq.rs, and its fields.
@@ -176,8 +219,22 @@ pub struct Run<S> {
     ticks: Option<Ticks>,
 }
 
+/// A call that is not refused.
+#[derive(Clone, Copy)]
+pub enum Accepted<'a> {
+    Feed(&'a Feed),
+    Check(u64),
+}
+
+/// What a sequence has made of one.
+pub struct Heard {
+    /// The entry that was ticked.
+    pub ticked: Option<usize>,
+    pub actions: Vec<Action>,
+}
+
 impl<S: Sequencer> Run<S> {
-    fn new(seq: S, base: Instant) -> Self {
+    pub fn new(seq: S, base: Instant) -> Self {
         Run {
             seq,
             clock: Clock { base, last: 0 },
@@ -212,23 +269,64 @@ impl<S: Sequencer> Run<S> {
         (self.seq.step(), self.seq.awaits())
     }
 
-    fn accepted(
-        &mut self,
-        (now, how): (u64, How),
-        before: (Step, Option<usize>),
-        actions: &[Action],
-        out: &mut String,
-    ) {
-        self.clock.last = now;
-        out.push_str("accepted; ");
-        if let (Some(entry), true) = (before.1, self.seq.step() != before.0) {
-            write::ticked(out, entry);
-            if let Some(ticks) = &mut self.ticks {
-                ticks.add(now, how);
+    /// Hands a call to the Rust.
+    pub fn hear(&mut self, call: Accepted) -> Heard {
+        let before = self.place();
+        let (now, how, actions) = match call {
+            Accepted::Feed(feed) => {
+                let actions = self.fed(feed);
+                (feed.now, How::of(&feed.message), actions)
             }
+            Accepted::Check(now) => {
+                let actions = self.seq.check(self.clock.at(now));
+                (now, How::Check, actions)
+            }
+        };
+        self.clock.last = now;
+        let ticked = before.1.filter(|_| self.seq.step() != before.0);
+        if let (Some(_), Some(ticks)) = (ticked, &mut self.ticks) {
+            ticks.add(now, how);
         }
-        write::sends(out, actions);
+        Heard { ticked, actions }
+    }
+
+    fn fed(&mut self, feed: &Feed) -> Vec<Action> {
+        if self.seq.keeps_back(feed) {
+            return Vec::new();
+        }
+        let (now, wall) = (self.clock.at(feed.now), wall(feed.wall));
+        self.seq.feed(&envelope(feed), now, wall)
+    }
+
+    fn accepted(&mut self, call: Accepted, out: &mut String) {
+        let heard = self.hear(call);
+        out.push_str("accepted; ");
+        if let Some(entry) = heard.ticked {
+            write::ticked(out, None, entry);
+        }
+        write::sends(out, &heard.actions);
         write::step(out, self.seq.step());
+    }
+
+    pub fn sequencer(&self) -> &S {
+        &self.seq
+    }
+
+    pub fn is_done(&self) -> bool {
+        self.seq.is_complete()
+    }
+
+    /// As a part of a session.
+    pub fn part(&self) -> Part {
+        let waits = self.seq.waits();
+        Part {
+            which: S::WHICH,
+            step: self.seq.step(),
+            last: self.clock.last,
+            deadline: self.clock.reading(waits.repoll.or(waits.deadline)),
+            repoll: self.clock.reading(waits.repoll),
+            sheet: self.ticks.as_ref().map_or(0, |ticks| ticks.sheet().len()),
+        }
     }
 
     fn refused(&self, number: u8, out: &mut String) {
@@ -247,23 +345,14 @@ impl<S: Sequencer> Running for Run<S> {
         if let Some(number) = refusal {
             return self.refused(number, out);
         }
-        let before = self.place();
-        let (now, wall) = (self.clock.at(feed.now), wall(feed.wall));
-        let actions = match self.seq.keeps_back(feed) {
-            true => Vec::new(),
-            false => self.seq.feed(&envelope(feed), now, wall),
-        };
-        let tick = (feed.now, How::of(&feed.message));
-        self.accepted(tick, before, &actions, out);
+        self.accepted(Accepted::Feed(feed), out);
     }
 
     fn check(&mut self, now: u64, out: &mut String) {
         if let Some(number) = self.refusal_of_reading(now) {
             return self.refused(number, out);
         }
-        let before = self.place();
-        let actions = self.seq.check(self.clock.at(now));
-        self.accepted((now, How::Check), before, &actions, out);
+        self.accepted(Accepted::Check(now), out);
     }
 
     fn result(&self, out: &mut String) {
@@ -275,28 +364,9 @@ impl<S: Sequencer> Running for Run<S> {
         self.seq.result(out);
     }
 
-    /// Each byte lent is a full stop before. Where it isn't said how many
-    /// are lent, what was written is told alone.
     fn sheet(&self, lent: Option<(u64, usize)>, out: &mut String) {
-        let (at, length) = lent.unwrap_or((0, DEFAULT_LENT));
-        let mut buffer = vec![b'.'; length];
         let ticks = self.ticks.as_ref().expect("a call of this sequence");
-        match sheet::put(ticks.sheet(), &mut buffer, at) {
-            Err(number) => {
-                out.push_str("refused ");
-                write::decimal(out, number);
-            }
-            Ok(count) => {
-                out.push_str("accepted; wrote ");
-                write::decimal(out, count as u64);
-                if lent.is_none() {
-                    out.push(';');
-                    return write::text(out, "sheet", &buffer[..count]);
-                }
-            }
-        }
-        out.push(';');
-        write::text(out, "buffer", &buffer);
+        sheet_into(ticks.sheet(), lent, out);
     }
 
     fn take(&mut self, out: &mut String) {
@@ -343,6 +413,30 @@ impl<S: Sequencer> Running for Run<S> {
             sheet: self.ticks.as_ref().map(|ticks| ticks.sheet().len()),
         }
     }
+}
+
+/// Writes the answer of a call for a sheet. Each byte lent is a full stop
+/// before. Where it isn't said how many are lent, what was written is told
+/// alone.
+pub fn sheet_into(sheet: &str, lent: Option<(u64, usize)>, out: &mut String) {
+    let (at, length) = lent.unwrap_or((0, DEFAULT_LENT));
+    let mut buffer = vec![b'.'; length];
+    match sheet::put(sheet, &mut buffer, at) {
+        Err(number) => {
+            out.push_str("refused ");
+            write::decimal(out, number);
+        }
+        Ok(count) => {
+            out.push_str("accepted; wrote ");
+            write::decimal(out, count as u64);
+            if lent.is_none() {
+                out.push(';');
+                return write::text(out, "sheet", &buffer[..count]);
+            }
+        }
+    }
+    out.push(';');
+    write::text(out, "buffer", &buffer);
 }
 
 /// A `SystemTime` holds 63 bits of seconds. Without the highest of the 64

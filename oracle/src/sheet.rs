@@ -49,14 +49,8 @@ pub struct Ticks {
 impl Ticks {
     /// Of a sequence that has just begun, if it is a start-up.
     pub fn of(which: Which) -> Option<Ticks> {
-        let letter = match which {
-            Which::Dsp => 'D',
-            Which::Avr => 'A',
-            Which::Pi => 'P',
-            _ => return None,
-        };
         Some(Ticks {
-            letter,
+            letter: which.letter()?,
             has_clock: which.has_clock(),
             count: 0,
             sheet: String::new(),

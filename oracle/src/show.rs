@@ -1,13 +1,15 @@
 //! Shows a list to people, as docs/REPLAY.md says under "Shown to people":
 //! its lines, below each call its answer, and at the end what it came to.
 
+mod session;
+
 use std::io::{self, BufRead, Write};
 use std::sync::LazyLock;
 
 use crate::front::{Front, without_mark};
 use crate::list::{self, Begin, Call, Which};
 use crate::papers;
-use crate::running::{Step, View};
+use crate::running::{SessionView, Step, View};
 use crate::withheld::{self, Withheld};
 use crate::write;
 
@@ -94,7 +96,8 @@ impl Show {
         } else {
             line
         };
-        let (before, mut answer) = (self.front.view(), String::new());
+        let before = (self.front.view(), self.front.session());
+        let mut answer = String::new();
         let read = self.front.line(line, &mut answer);
         let kept = without_return(&own[..own.len().min(list::LONGEST)]);
         let withheld = match self.secrets {
@@ -133,7 +136,13 @@ impl Show {
         }
     }
 
-    fn answer(&mut self, call: &Call, before: Option<View>, answer: &str, out: &mut Vec<u8>) {
+    fn answer(
+        &mut self,
+        call: &Call,
+        (before, session): (Option<View>, Option<SessionView>),
+        answer: &str,
+        out: &mut Vec<u8>,
+    ) {
         if gives_no_model(call) {
             indented(out, "model Mevo by default");
         }
@@ -154,6 +163,13 @@ impl Show {
         for part in &parts {
             match (part[0], now) {
                 ("ticked", _) => {}
+                ("D" | "A" | "P", _) if session::is_step(part) => {
+                    if part[0] == "D" {
+                        let before = session.filter(|_| !matches!(call, Call::Begin(_)));
+                        session::steps(out, before, self.front.session());
+                    }
+                }
+                ("D" | "A" | "P", _) => self.of_start_up(out, part),
                 ("accepted", Some(_)) => {
                     let ticked = match (which, ticked) {
                         (Some(Which::Arm), _) if moved => "awaited".to_string(),
@@ -168,7 +184,10 @@ impl Show {
                 ("state", _) if part.len() == 1 => {}
                 ("state", _) => {
                     indented(out, "state");
-                    self.fields(out, &part[1..]);
+                    match which {
+                        Some(Which::Session) => self.of_start_up(out, &part[1..]),
+                        _ => self.fields(out, &part[1..]),
+                    }
                 }
                 (word, _) if word.starts_with("Wait") || word == "Done" => {
                     let still = if moved { "now" } else { "still" };
@@ -215,16 +234,10 @@ impl Show {
         let (calls, bad_lines) = (counted(calls, "call"), counted(bad_lines, "bad line"));
         let counts = format!("\n{calls}, {} refused, {bad_lines}\n", self.refused);
         out.extend(counts.bytes());
-        if let Some(view) = self.front.view() {
-            let head = format!("{} is ", name(view.which));
-            match waits(view.which, view.step) {
-                None => out.extend(format!("{head}done\n").bytes()),
-                Some((step, words)) => {
-                    let head = format!("{head}not done: {step} waits for ");
-                    out.extend(head.bytes());
-                    folded(out, words.as_bytes(), head.len(), ANSWER);
-                }
-            }
+        match (self.front.view(), self.front.session()) {
+            (None, _) => {}
+            (Some(view), Some(session)) => session::sum_up(out, view, session),
+            (Some(view), None) => sum_up(out, view.which, view.step),
         }
         if self.withheld {
             out.extend(format!("{}\n", withheld::NOTE).bytes());
@@ -263,6 +276,20 @@ fn name(which: Which) -> &'static str {
         Which::AvrConfig => "the settings run",
         Which::Disarm => "the disarm",
         Which::Arm => "the arm",
+        Which::Session => "the session",
+    }
+}
+
+/// Writes whether a sequence is done, and else what it waits for.
+fn sum_up(out: &mut Vec<u8>, which: Which, step: Step) {
+    let head = format!("{} is ", name(which));
+    match waits(which, step) {
+        None => out.extend(format!("{head}done\n").bytes()),
+        Some((step, words)) => {
+            let head = format!("{head}not done: {step} waits for ");
+            out.extend(head.bytes());
+            folded(out, words.as_bytes(), head.len(), ANSWER);
+        }
     }
 }
 

@@ -167,7 +167,9 @@ fn no_sequence() {
         let bad = list::read(line.as_bytes(), None).err().expect(line);
         assert_eq!((bad.column, bad.reason), (1, Reason::NoSequence));
     }
-    let begins = ["dsp", "avr", "avr Xi", "pi", "disarm", "arm", "arm Xi"];
+    let begins = [
+        "dsp", "avr", "avr Xi", "pi", "disarm", "arm", "arm Xi", "session",
+    ];
     let settings = ["avr_config mode=1", "mode_only mode=1"];
     let others = ["ack Xi Avr 1", "keepalive", "model", "# feed"];
     for line in begins.iter().chain(&settings).chain(&others) {
@@ -184,10 +186,12 @@ fn not_of_the_sequence() {
             "bad line at column 1: not a call of this sequence"
         ),
     };
-    let without = |has: fn(Which) -> bool| Which::ALL.into_iter().filter(move |w| !has(*w));
+    let every = Which::WITH_SESSION.into_iter();
+    let without = |has: fn(Which) -> bool| every.clone().filter(move |w| !has(*w));
     let others = [Which::AvrConfig, Which::Disarm, Which::Arm];
     for line in ["take", "  take", "take it"] {
-        without(|which| which == Which::Dsp).for_each(|which| refused(which, line));
+        let has = |which| matches!(which, Which::Dsp | Which::Session);
+        without(has).for_each(|which| refused(which, line));
     }
     for line in ["check 1", "\tcheck", "check x", "check 1 2"] {
         refused(Which::Pi, line);
@@ -207,7 +211,7 @@ fn not_of_the_sequence() {
 #[test]
 fn of_the_sequence() {
     let read = |which, line: &str| list::read(line.as_bytes(), Some(which)).is_ok();
-    for which in Which::ALL {
+    for which in Which::WITH_SESSION {
         assert!(read(which, "feed 1 Pi 2 PiStatus"));
     }
     for which in [Which::Dsp, Which::Avr, Which::Pi] {
@@ -219,6 +223,9 @@ fn of_the_sequence() {
     assert!(read(Which::Dsp, "check 1"));
     assert!(read(Which::Avr, "check 1"));
     assert!(read(Which::Dsp, "take"));
+    for line in ["result", "check 1", "take", "sheet D", "sheet P 0 34"] {
+        assert!(read(Which::Session, line));
+    }
     assert!(read(Which::Arm, " retries "));
     let extra = list::read(b"retries 1", Some(Which::Arm)).err().unwrap();
     assert!(
@@ -435,6 +442,63 @@ fn sheets() {
     let most = Some((u64::MAX, 1024));
     assert_eq!(lent("sheet 18446744073709551615\t0x400 "), most);
     assert_eq!(lent("sheet 0xFFFFffffFFFFffff 0001024"), most);
+}
+
+/// In a session the letter of a start-up comes first, and only there.
+#[test]
+fn sheets_of_a_session() {
+    let read = |line: &str| list::read(line.as_bytes(), Some(Which::Session));
+    let unknown = "unknown start-up: D, A or P expected";
+    let number = "not a number: write one as 12 or 0x0C; a type id stands before the kind";
+    let end = "end of line expected: a text or payload stands behind its name and =, a comment on a line of its own";
+    for (line, column, reason) in [
+        ("sheet", 6, unknown),
+        (" sheet", 7, unknown),
+        ("sheet  \t", 9, unknown),
+        ("sheet \r", 7, unknown),
+        ("sheet d", 7, unknown),
+        ("sheet  B", 8, unknown),
+        ("sheet DA", 7, unknown),
+        ("sheet \"D\"", 7, unknown),
+        ("sheet D,", 7, unknown),
+        ("sheet Dsp 0 34", 7, unknown),
+        ("sheet 0 34", 7, unknown),
+        ("sheet 0 34 D", 7, unknown),
+        ("sheet x 34", 7, unknown),
+        ("sheet #", 7, unknown),
+        ("sheet D A", 9, number),
+        ("sheet A x", 9, number),
+        ("sheet P 0", 10, number),
+        ("sheet P 0 ", 11, number),
+        ("sheet P 0 x", 11, number),
+        ("sheet P 18446744073709551616 0", 9, "out of range"),
+        ("sheet A 0 1025", 11, "out of range"),
+        ("sheet A 0 34 D", 14, end),
+        ("sheet A 0 34 #", 14, end),
+        ("session 1", 9, end),
+        ("session Xi", 9, end),
+        ("session #", 9, end),
+        ("sessions", 1, "unknown call: docs/REPLAY.md names them all"),
+        ("Session", 1, "unknown call: docs/REPLAY.md names them all"),
+        ("retries", 1, "not a call of this sequence"),
+        ("retries x", 1, "not a call of this sequence"),
+    ] {
+        let bad = read(line).err().expect(line);
+        let told = format!("bad line at column {column}: {reason}");
+        assert_eq!(bad.to_string(), told, "{line}");
+    }
+    let asked = |line: &str| match read(line).unwrap() {
+        Some(Call::SheetOf { which, lent }) => (which, lent),
+        _ => panic!("{line}"),
+    };
+    assert_eq!(asked("sheet D"), (Which::Dsp, None));
+    assert_eq!(asked("\tsheet  A \t\r"), (Which::Avr, None));
+    assert_eq!(asked("sheet P 0x3 40"), (Which::Pi, Some((3, 40))));
+    check("sheet D", 7, "not a number");
+    check("sheet P 0 34", 7, "not a number");
+    let early = list::read(b"sheet D", None).err().unwrap();
+    assert_eq!((early.column, early.reason), (1, Reason::NoSequence));
+    assert!(matches!(good(" session\t"), Some(Call::Begin(_))));
 }
 
 #[test]

@@ -6,7 +6,7 @@ use oracle::broken::{self, Broken};
 use oracle::compare::{LIST_LINES, LONG_ARM_CALLS, List, Source, front_answers, shrink};
 use oracle::coverage::Coverage;
 use oracle::front;
-use oracle::generate::{LEANINGS, LONG_ARM, Leaning, RIGS, Random, device_info};
+use oracle::generate::{LEANINGS, LONG_ARM, Leaning, RIGS, Random, SESSIONS, device_info};
 use oracle::list::{self, Begin, Call, Settings, Which};
 use oracle::model::{Model, has};
 use oracle::protocol::config::{ParamData, ParamValue};
@@ -15,7 +15,7 @@ use oracle::refusal;
 
 #[test]
 fn the_same_seed_gives_the_same_list() {
-    for leaning in LEANINGS {
+    for leaning in LEANINGS.into_iter().chain([SESSIONS]) {
         let list = |seed| Source::new(seed, leaning, true).list(usize::MAX, 500);
         assert_eq!(list(1).lines, list(1).lines);
         assert_eq!(list(1).answers, list(1).answers);
@@ -25,7 +25,7 @@ fn the_same_seed_gives_the_same_list() {
 
 #[test]
 fn default_lists_are_comparable() {
-    for leaning in LEANINGS {
+    for leaning in LEANINGS.into_iter().chain([SESSIONS]) {
         let list = Source::new(3, leaning, false).list(usize::MAX, 5_000);
         assert!(!list.answers.contains("bad line"));
         for line in &list.lines {
@@ -39,9 +39,9 @@ fn default_lists_are_comparable() {
 
 #[test]
 fn everything_is_met() {
-    for which in Which::ALL {
+    for which in Which::WITH_SESSION {
         let mut all = Coverage::default();
-        let leanings = LEANINGS.into_iter().chain([RIGS]);
+        let leanings = LEANINGS.into_iter().chain([RIGS, SESSIONS]);
         for leaning in leanings.filter(|l| l.which == which) {
             let mut source = Source::new(5, leaning, true);
             source.list(usize::MAX, 10_000);
@@ -58,8 +58,8 @@ fn everything_is_met_of_a_comparison() {
     for which in [Which::AvrConfig, Which::Disarm, Which::Arm] {
         let mut all = Coverage::default();
         for leaning in LEANINGS.into_iter().filter(|l| l.which == which) {
-            let mut source = Source::of_calls(10_000, 6, leaning, true);
-            source.list(usize::MAX, 10_000);
+            let mut source = Source::of_calls(20_000, 6, leaning, true);
+            source.list(usize::MAX, 20_000);
             all.add(&source.coverage);
         }
         assert_eq!(all.missing(&[which]), Vec::<String>::new());

@@ -316,18 +316,15 @@ fn states() {
 fn examples() {
     let list = repository("examples/rig.list");
     let answers = answers(&list, false);
-    let ticked: Vec<u32> = answers
+    let ticked: Vec<&str> = answers
         .lines()
-        .filter_map(|line| {
-            line.split_once("ticked ")?
-                .1
-                .split(';')
-                .next()?
-                .parse()
-                .ok()
-        })
+        .filter_map(|line| line.split_once("ticked ")?.1.split(';').next())
         .collect();
-    assert_eq!(ticked, (1..=7).chain(1..=12).collect::<Vec<_>>());
+    let entries = |letter: char, last: u32| (1..=last).map(move |n| format!("{letter}{n}"));
+    assert_eq!(
+        ticked,
+        entries('D', 7).chain(entries('A', 12)).collect::<Vec<_>>()
+    );
     assert_eq!(answers.matches("model=Rig").count(), 1);
     assert!(!answers.contains("send Pi"));
     let arm = bare(&repository("examples/rig_arm.list"));

@@ -7,7 +7,7 @@ use std::fs;
 
 use common::{PARAMS, answers, dsp_result, message};
 use oracle::compare::Source;
-use oracle::generate::LEANINGS;
+use oracle::generate::{LEANINGS, SESSIONS};
 use oracle::list::Which;
 use oracle::papers;
 use oracle::show::{self, Form, Show};
@@ -506,7 +506,7 @@ fn columns(line: &str) -> usize {
 /// with each value of the plain form.
 #[test]
 fn generated_lists() {
-    for leaning in LEANINGS {
+    for leaning in LEANINGS.into_iter().chain([SESSIONS]) {
         let lines = Source::new(7, leaning, true).list(usize::MAX, 1_500).lines;
         let mut show = Show::new(Form {
             with_state: true,

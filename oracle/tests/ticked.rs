@@ -3,11 +3,14 @@
 
 mod common;
 
+use std::collections::HashMap;
+
 use common::{PARAMS, answers};
 use oracle::compare::Source;
 use oracle::front::Front;
-use oracle::generate::LEANINGS;
+use oracle::generate::{LEANINGS, SESSIONS};
 use oracle::list::{Call, Which};
+use oracle::running::Step;
 
 /// Of each line the entry that was ticked, or 0.
 fn ticked(list: &str) -> Vec<usize> {
@@ -15,12 +18,21 @@ fn ticked(list: &str) -> Vec<usize> {
 }
 
 fn entry(answer: &str) -> usize {
+    let (letter, entry) = lettered(answer);
+    assert_eq!(letter, "", "{answer}");
+    entry
+}
+
+/// In a session the letter of a start-up stands before the entry.
+fn lettered(answer: &str) -> (&str, usize) {
     let Some((before, rest)) = answer.split_once("; ticked ") else {
-        return 0;
+        return ("", 0);
     };
     assert!(before.ends_with(": accepted"), "{answer}");
-    let (number, _) = rest.split_once("; ").expect(answer);
-    number.parse().expect(answer)
+    let (told, _) = rest.split_once("; ").expect(answer);
+    let (letter, number) =
+        told.split_at(told.len() - told.trim_start_matches(['D', 'A', 'P']).len());
+    (letter, number.parse().expect(answer))
 }
 
 const STATUS: &str = "DspStatus V46 state=1 version=0x46";
@@ -99,28 +111,47 @@ fn of_an_arm_nothing() {
     assert!(answers(&arm, false).contains("2: accepted; send Avr StatusPoll"));
 }
 
+/// Where a sequence stands, or each of a session's start-ups.
+fn steps(front: &Front) -> Vec<Step> {
+    match front.session() {
+        None => front.view().map(|view| view.step).into_iter().collect(),
+        Some(session) => session
+            .parts
+            .into_iter()
+            .flatten()
+            .map(|part| part.step)
+            .collect(),
+    }
+}
+
 /// An entry is ticked exactly if the step changes, but of an arm none. Each
-/// is higher than the one before.
+/// is higher than the one before, in a session that of the same start-up.
 #[test]
 fn of_generated_lists() {
-    for leaning in LEANINGS {
+    for leaning in LEANINGS.into_iter().chain([SESSIONS]) {
         let lines = Source::new(11, leaning, true).list(usize::MAX, 5_000).lines;
-        let (mut front, mut last, mut met) = (Front::new(false), 0, 0);
+        let (mut front, mut last, mut met) = (Front::new(false), HashMap::new(), 0);
         for line in lines {
-            let (mut answer, before) = (String::new(), front.view());
+            let (mut answer, before) = (String::new(), steps(&front));
             let read = front.line(line.as_bytes(), &mut answer);
-            let (after, entry) = (front.view(), entry(&answer));
+            let (after, (letter, entry)) = (front.view(), lettered(&answer));
             if let Ok(Some(Call::Begin(_))) = read {
                 assert_eq!(entry, 0, "{answer}");
-                last = 0;
+                last.clear();
                 continue;
             }
-            let step = |view: Option<oracle::running::View>| view.map(|view| view.step);
-            let arm = after.is_some_and(|view| view.which == Which::Arm);
-            assert_eq!(entry > 0, step(before) != step(after) && !arm, "{answer}");
+            let which = after.map(|view| view.which);
+            let moved = before != steps(&front);
+            let ticks = moved && which != Some(Which::Arm);
+            assert_eq!(entry > 0, ticks, "{answer}");
             if entry > 0 {
-                assert!(entry > last, "{line}\n{answer}");
-                (last, met) = (entry, met + 1);
+                assert_eq!(letter != "", which == Some(Which::Session), "{answer}");
+                let before = last.insert(letter.to_string(), entry);
+                assert!(
+                    before.is_none_or(|before| entry > before),
+                    "{line}\n{answer}"
+                );
+                met += 1;
             }
         }
         assert!(met > 0 || leaning.which == Which::Arm);

@@ -10,7 +10,7 @@ use std::collections::HashSet;
 use common::{PARAMS, message, repository};
 use oracle::broken::{self, Broken};
 use oracle::compare::{Source, as_text};
-use oracle::generate::{LEANINGS, Random, twin};
+use oracle::generate::{LEANINGS, Random, SESSIONS, twin};
 use oracle::show::{self, Form};
 use oracle::withheld;
 
@@ -391,7 +391,7 @@ fn two_texts_that_differ() {
 fn generated_lists() {
     let mut random = Random::new(11);
     let mut changed = 0;
-    for leaning in LEANINGS {
+    for leaning in LEANINGS.into_iter().chain([SESSIONS]) {
         let lines = Source::new(9, leaning, true).list(usize::MAX, 1_500).lines;
         let list = as_text(&lines).into_bytes();
         let (twin, lines) = twin(&list, &mut random);

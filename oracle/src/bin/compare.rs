@@ -1,7 +1,7 @@
 //! compare N [SEED] --replay PATH [--only SEQUENCE] [--bad] [--show [--secrets]]:
-//! runs N calls of each sequence and model, and N of a DSP with rigs, through
-//! the Rust and through the program at PATH; with --show both show the lists to
-//! people, with --secrets whole. A run of an arm ends before a text on which the
+//! runs N calls of each sequence and model, N of a DSP with rigs, and N of
+//! sessions, through the Rust and through the program at PATH; with --show both
+//! show the lists to people, with --secrets whole. A run of an arm ends before a text on which the
 //! rules differ.
 
 use std::io;
@@ -10,13 +10,13 @@ use std::time::{SystemTime, UNIX_EPOCH};
 
 use oracle::compare::{Difference, LIST_LINES, LONG_ARM_CALLS, Program, Source};
 use oracle::coverage::Coverage;
-use oracle::generate::{LEANINGS, Leaning, RIGS};
+use oracle::generate::{LEANINGS, Leaning, RIGS, SESSIONS};
 use oracle::list::Which;
 use oracle::show::Form;
 
 const USAGE: &str =
     "usage: compare N [SEED] --replay PATH [--only SEQUENCE] [--bad] [--show [--secrets]]
-SEQUENCE: dsp, avr, pi, avr_config, disarm or arm";
+SEQUENCE: dsp, avr, pi, avr_config, disarm, arm or session";
 
 /// The lines that are shown of a list with a difference.
 const MOST_SHOWN: usize = 1_000;
@@ -41,7 +41,8 @@ fn main() -> ExitCode {
     println!("seed {}", task.seed);
     let mut coverage = Coverage::default();
     let asked = |leaning: &Leaning| task.of.contains(&leaning.which);
-    for leaning in LEANINGS.into_iter().chain([RIGS]).filter(asked) {
+    let leanings = LEANINGS.into_iter().chain([RIGS, SESSIONS]);
+    for leaning in leanings.filter(asked) {
         match compare(&task, leaning) {
             Ok(Ok(counted)) => coverage.add(&counted),
             Ok(Err((list, difference))) => return differs(&list, &difference),
@@ -68,7 +69,7 @@ fn main() -> ExitCode {
 fn task() -> Option<Task> {
     let (mut numbers, mut path) = (Vec::new(), None);
     let (mut bad, mut shown, mut secrets) = (false, false, false);
-    let mut of = Which::ALL.to_vec();
+    let mut of = Which::WITH_SESSION.to_vec();
     let mut args = std::env::args_os().skip(1);
     while let Some(arg) = args.next() {
         match arg.to_str()? {

@@ -6,12 +6,12 @@ use std::io::{self, Write};
 use std::process::ExitCode;
 
 use oracle::compare::{LIST_LINES, Source, as_text};
-use oracle::generate::Leaning;
+use oracle::generate::{Leaning, SESSIONS};
 use oracle::list::Which;
 use oracle::protocol::handshake::DeviceModel;
 
 const USAGE: &str = "usage: generate N [SEED] [--only SEQUENCE] [--mevo] [--rigs] [--whole] [--bad]
-SEQUENCE: dsp, avr, pi, avr_config, disarm or arm";
+SEQUENCE: dsp, avr, pi, avr_config, disarm, arm or session";
 
 struct Task {
     calls: u64,
@@ -65,10 +65,14 @@ fn task() -> Option<Task> {
         true => DeviceModel::Mevo,
         false => DeviceModel::Xi,
     };
+    let leaning = match which {
+        Which::Session => SESSIONS,
+        _ => Leaning { which, model, rigs },
+    };
     Some(Task {
         calls,
         seed,
-        leaning: Leaning { which, model, rigs },
+        leaning,
         whole,
         bad,
     })

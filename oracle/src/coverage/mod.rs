@@ -4,6 +4,7 @@ mod arm;
 mod avr_config;
 mod disarm;
 mod places;
+mod session;
 mod sheets;
 mod start_ups;
 mod tables;
@@ -14,7 +15,7 @@ use std::fmt;
 use crate::front::Front;
 use crate::list::{Bad, Begin, Call, Reason, Which};
 use crate::protocol::handshake::DeviceModel;
-use crate::running::View;
+use crate::running::{SessionView, View};
 use tables::{Event, Row, Table};
 
 pub struct Coverage {
@@ -24,11 +25,27 @@ pub struct Coverage {
     pub long_arm: bool,
     /// Whether payloads with a rig's tag are among them.
     pub rigs: bool,
-    /// In the order of `Which::ALL`.
-    sequences: [Counts; Which::ALL.len()],
+    /// In the order of `Which::WITH_SESSION`.
+    sequences: [Counts; Which::WITH_SESSION.len()],
     reasons: [u64; Reason::ALL.len()],
     /// Rows met by this sequence before its model is known.
     early: Vec<&'static str>,
+}
+
+/// What is seen of what runs.
+#[derive(Clone, Copy)]
+pub struct Seen {
+    view: Option<View>,
+    session: Option<SessionView>,
+}
+
+impl Seen {
+    pub fn of(front: &Front) -> Seen {
+        Seen {
+            view: front.view(),
+            session: front.session(),
+        }
+    }
 }
 
 /// What was met of a sequence.
@@ -52,7 +69,7 @@ impl Default for Coverage {
             bad_lines: 0,
             long_arm: false,
             rigs: false,
-            sequences: Which::ALL.map(Counts::new),
+            sequences: Which::WITH_SESSION.map(Counts::new),
             reasons: [0; Reason::ALL.len()],
             early: Vec::new(),
         }
@@ -64,19 +81,19 @@ impl Coverage {
     pub fn of_list(lines: &[String]) -> Self {
         let (mut coverage, mut front) = (Coverage::default(), Front::new(false));
         for line in lines {
-            let (before, mut answer) = (front.view(), String::new());
+            let (before, mut answer) = (Seen::of(&front), String::new());
             let read = front.line(line.as_bytes(), &mut answer);
-            coverage.count(&read, before, front.view(), answer.trim_end());
+            coverage.count(&read, before, Seen::of(&front), answer.trim_end());
         }
         coverage
     }
 
-    /// Counts a line: what was read, the views around it, and its answer.
+    /// Counts a line: what was read, what was seen around it, and its answer.
     pub fn count(
         &mut self,
         read: &Result<Option<Call>, Bad>,
-        before: Option<View>,
-        after: Option<View>,
+        before: Seen,
+        after: Seen,
         answer: &str,
     ) {
         match read {
@@ -109,17 +126,19 @@ impl Coverage {
         found.expect("one of all sequences")
     }
 
-    fn call(&mut self, call: &Call, before: Option<View>, after: Option<View>, answer: &str) {
+    fn call(&mut self, call: &Call, before: Seen, after: Seen, answer: &str) {
         self.calls += 1;
         let answer = answer.split_once(": ").map_or(answer, |(_, rest)| rest);
         if let Call::Begin(begin) = call {
             return self.begin(begin, tables::outcome(answer));
         }
-        if let (Some(before), Some(after)) = (before, after) {
+        let sessions = before.session.zip(after.session);
+        if let (Some(before), Some(after)) = (before.view, after.view) {
             self.event(&Event {
                 call,
                 before,
                 after,
+                sessions,
                 answer,
             });
         }
@@ -182,11 +201,16 @@ impl Coverage {
     }
 
     /// The reasons of bad lines that were never met. The DSP has every call
-    /// that its lists have, so they can't meet one that a sequence hasn't.
+    /// that its lists have, so they can't meet one that a sequence hasn't. A
+    /// session alone asks for a start-up.
     pub fn missing_reasons(&self, of: &[Which]) -> Vec<String> {
         let reasons = Reason::ALL.iter().zip(self.reasons);
         let dsp_alone = of == [Which::Dsp];
-        let can_be = |reason: &Reason| !dsp_alone || *reason != Reason::NotOfSequence;
+        let can_be = |reason: &Reason| match reason {
+            Reason::NotOfSequence => !dsp_alone,
+            Reason::UnknownStartUp => of.contains(&Which::Session),
+            _ => true,
+        };
         let never = reasons.filter(|(reason, count)| *count == 0 && can_be(reason));
         never.map(|(reason, _)| reason.to_string()).collect()
     }

@@ -96,7 +96,7 @@ const ANSWERS: [&str; 12] = [
 
 /// What is counted of the askings.
 pub fn answer_names(which: Which) -> &'static [&'static str] {
-    if which.has_sheet() { &ANSWERS } else { &[] }
+    if which.is_start_up() { &ANSWERS } else { &[] }
 }
 
 /// The lines of a sheet that was given.

@@ -1,10 +1,10 @@
 //! What is counted of each sequence: the rows of its table with what ticks
 //! them, what else it does or leaves undone, and its answers.
 
-use super::{arm, avr_config, disarm, places, sheets, start_ups};
+use super::{arm, avr_config, disarm, places, session, sheets, start_ups};
 use crate::list::{Begin, Call, Feed, Which};
 use crate::model::Model;
-use crate::running::View;
+use crate::running::{SessionView, View};
 
 pub struct Table {
     /// The rows are counted for each model apart, or all together.
@@ -55,6 +55,7 @@ pub fn table(which: Which) -> Table {
         Which::AvrConfig => (ALL, &avr_config::ROWS, &avr_config::ANSWERS),
         Which::Disarm => (ALL, &disarm::ROWS, &disarm::ANSWERS),
         Which::Arm => (MODELS, &arm::ROWS, &arm::ANSWERS),
+        Which::Session => (ALL, &session::ROWS, &session::ANSWERS),
     };
     Table {
         columns,
@@ -68,6 +69,8 @@ pub struct Event<'a> {
     pub call: &'a Call,
     pub before: View,
     pub after: View,
+    /// Where it is one of a session.
+    pub sessions: Option<(SessionView, SessionView)>,
     /// Without the line's number.
     pub answer: &'a str,
 }
@@ -107,6 +110,9 @@ pub fn outcome(answer: &str) -> &str {
 /// The rows that a call has met.
 pub fn rows(event: &Event) -> Vec<&'static str> {
     let mut met = Vec::new();
+    if event.before.which == Which::Session {
+        return session::ticked(event).into_iter().collect();
+    }
     if event.moved() {
         let step = event.before.step;
         let ticked = ticked(event);
@@ -152,7 +158,7 @@ pub fn begun(begin: &Begin, outcome: &str) -> Vec<&'static str> {
             Some(_) => Vec::new(),
         },
         Begin::AvrConfig(settings) => avr_config::begun(settings, outcome),
-        Begin::Dsp | Begin::Pi | Begin::Disarm => Vec::new(),
+        Begin::Dsp | Begin::Pi | Begin::Disarm | Begin::Session => Vec::new(),
     }
 }
 
@@ -163,6 +169,7 @@ pub fn answers(event: &Event, table: &Table) -> Vec<&'static str> {
     match event.before.which {
         Which::Disarm => met.extend(disarm::answers(event)),
         Which::Arm => met.extend(arm::answers(event)),
+        Which::Session => met.extend(session::answers(event)),
         _ => met.extend([places::answers(event), sheets::answers(event)].concat()),
     }
     met

@@ -1,6 +1,7 @@
 //! Lines that can't be read.
 
-use super::bad_lines::{EARLY, LINES, MORE_LINES, RETRIES_EARLY, SETTINGS_ARM_LINES};
+use super::bad_lines::{EARLY, LINES, MORE_EARLY, MORE_LINES};
+use super::bad_lines::{SESSION_LINES, SETTINGS_ARM_LINES};
 use super::kinds::{self, KINDS, Kind, Type};
 use super::random::Random;
 use super::settings;
@@ -29,8 +30,9 @@ impl BadLines {
             bad.more.extend(MORE_LINES);
         }
         if !which.is_start_up() {
-            bad.early.extend(RETRIES_EARLY);
+            bad.early.extend(MORE_EARLY);
             bad.more.extend(SETTINGS_ARM_LINES);
+            bad.more.extend(SESSION_LINES);
             bad.begins = &settings::BEGINS;
         }
         bad

@@ -209,5 +209,35 @@ pub const SETTINGS_ARM_LINES: [&str; 62] = [
     "sheet x",
 ];
 
+/// The same, with the words of sessions.
+pub const SESSION_LINES: [&str; 26] = [
+    "sessions",
+    "Session",
+    "session=1",
+    "session 1",
+    "session Xi",
+    "session #",
+    "sheet d",
+    "sheet B",
+    "sheet DA",
+    "sheet D,",
+    "sheet \"P\"",
+    "sheet Dsp 0 34",
+    "sheet  \t",
+    "sheet 0 34 D",
+    "sheet D A",
+    "sheet A x",
+    "sheet P 0",
+    "sheet P 0 x",
+    "sheet A -1 34",
+    "sheet D 18446744073709551616 34",
+    "sheet A 0 1025",
+    "sheet P 0 34 #",
+    "sheet D",
+    "sheet A 0 0",
+    "sheet P 1 0",
+    "retries D",
+];
+
 /// More lines before any sequence.
-pub const RETRIES_EARLY: [&str; 2] = ["retries", "\tretries it"];
+pub const MORE_EARLY: [&str; 3] = ["retries", "\tretries it", "sheet D"];

@@ -16,6 +16,8 @@ pub struct Caller<'a> {
     pub model: DeviceModel,
     pub first: u64,
     pub view: View,
+    /// Whether there are checks, and readings are looked at.
+    pub has_clock: bool,
     /// Whether feeds may have wall seconds.
     pub walls: bool,
     /// Whether device infos have a rig's tag, too.
@@ -46,7 +48,7 @@ impl Caller<'_> {
         match self.random.below(100) {
             0..50 => self.awaited(),
             50..70 => self.near(),
-            70..80 if self.view.which.has_check() => {
+            70..80 if self.has_clock => {
                 let now = self.readings().any();
                 self.check(now)
             }
@@ -59,6 +61,7 @@ impl Caller<'_> {
             random: self.random,
             first: self.first,
             view: self.view,
+            has_clock: self.has_clock,
         }
     }
 
@@ -85,6 +88,7 @@ impl Caller<'_> {
             Which::AvrConfig => avr_config::reply(self),
             Which::Disarm => disarm::reply(self),
             Which::Arm => arm::reply(self),
+            Which::Session => unreachable!("it is one of its start-ups"),
         }
     }
 
@@ -97,6 +101,7 @@ impl Caller<'_> {
             Which::AvrConfig => avr_config::usual(self),
             Which::Disarm => disarm::usual(self),
             Which::Arm => arm::usual(self),
+            Which::Session => unreachable!("it is one of its start-ups"),
         }
     }
 
@@ -110,7 +115,7 @@ impl Caller<'_> {
             3 => feed.now = self.readings().fallen(),
             4 => feed.now = self.readings().past_limit(),
             5 => feed = self.wrong_ack(),
-            7 if self.view.which.has_check() => {
+            7 if self.has_clock => {
                 let deadline = self.view.deadline.unwrap_or(self.first);
                 return self.check(deadline.saturating_sub(1));
             }

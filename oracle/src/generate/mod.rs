@@ -14,11 +14,13 @@ mod long_arm;
 mod pi;
 mod random;
 mod readings;
+mod session;
 mod settings;
 mod sheets;
 mod twins;
 
 pub use bad::BadLines;
+pub use bad_lines::SESSION_LINES;
 pub use bytes::device_info;
 use caller::Caller;
 use long_arm::LongArm;
@@ -27,7 +29,7 @@ pub use twins::twin;
 
 use crate::list::Which;
 use crate::protocol::handshake::DeviceModel;
-use crate::running::View;
+use crate::running::{SessionView, View};
 
 /// A sequence and a model, of which most sequences of a list are.
 ///
@@ -68,6 +70,12 @@ pub const RIGS: Leaning = Leaning {
     ..leaning(Which::Dsp, DeviceModel::Xi)
 };
 
+/// Lists of sessions, in which devices name the same.
+pub const SESSIONS: Leaning = Leaning {
+    rigs: true,
+    ..leaning(Which::Session, DeviceModel::Mevo)
+};
+
 /// The one of which a long comparison has a long arm.
 pub const LONG_ARM: Leaning = leaning(Which::Arm, DeviceModel::Mevo);
 
@@ -79,12 +87,15 @@ pub struct Generator {
     left: u64,
     /// The first reading of this sequence.
     first: u64,
+    /// Of a session: in so many cases of a hundred the AVR comes before the Pi.
+    avr_first: u64,
     long_arm: Option<LongArm>,
 }
 
 impl Generator {
     pub fn new(seed: u64, leaning: Leaning) -> Self {
-        let place = LEANINGS.iter().position(|l| *l == leaning);
+        let mut places = LEANINGS.into_iter().chain([RIGS, SESSIONS]);
+        let place = places.position(|l| l == leaning);
         let mut random = Random::new(seed);
         for _ in 0..=place.unwrap_or(LEANINGS.len()) {
             random = Random::new(random.bits());
@@ -94,6 +105,7 @@ impl Generator {
             leaning,
             left: 0,
             first: 0,
+            avr_first: 0,
             long_arm: None,
         }
     }
@@ -114,8 +126,14 @@ impl Generator {
         self.left == 0
     }
 
-    /// The next line, for the state that the lines before it left.
+    /// The next line, for the state that the lines before it left, which is
+    /// that of no session.
     pub fn line(&mut self, view: Option<View>) -> String {
+        self.next(view, None)
+    }
+
+    /// The same where a session may run.
+    pub fn next(&mut self, view: Option<View>, session: Option<SessionView>) -> String {
         let long_arm = self.long_arm.as_mut();
         if let Some(line) = long_arm.and_then(|arm| arm.line(view)) {
             return line;
@@ -125,14 +143,36 @@ impl Generator {
             return self.begin();
         };
         self.left -= 1;
+        if let Some(session) = session {
+            return self.in_session(view, session);
+        }
         let words = match (self.random.below(100), view.sheet) {
             (0..3, _) => return comment(&mut self.random),
             (3..6, _) => aside(&mut self.random),
             (6..10, _) if view.which.has_result() => vec!["result".to_string()],
             (6..10, _) if view.which.has_retries() => vec!["retries".to_string()],
             (10..13, _) if view.which.has_take() => vec!["take".to_string()],
-            (13..20, Some(sheet)) => sheets::words(&mut self.random, sheet),
-            _ => self.call(view),
+            (13..20, Some(sheet)) => sheets::words(&mut self.random, None, sheet),
+            _ => self.call(view, view.which.has_clock()),
+        };
+        spaced(&mut self.random, &words)
+    }
+
+    fn in_session(&mut self, view: View, session: SessionView) -> String {
+        if view.step.name == "Done" && self.left > session::AFTER_DONE {
+            self.left = self.random.below(session::AFTER_DONE);
+        }
+        let words = match self.random.below(100) {
+            0..3 => return comment(&mut self.random),
+            3..6 => aside(&mut self.random),
+            6..10 => vec!["result".to_string()],
+            10..13 => vec!["take".to_string()],
+            13..20 => session::sheet(&mut self.random, session),
+            20..25 if session::one_is_done(session) => vec!["result".to_string()],
+            _ => {
+                let part = session::part(&mut self.random, session, self.avr_first);
+                self.call(session::view(view, part), true)
+            }
         };
         spaced(&mut self.random, &words)
     }
@@ -160,6 +200,10 @@ impl Generator {
             Which::Pi => self.left += 10,
             Which::Disarm => self.left /= 2,
             Which::Arm => self.left -= self.left / 4,
+            Which::Session => {
+                self.left = session::lines(&mut self.random);
+                self.avr_first = self.random.pick(&[20, 50, 70]);
+            }
             Which::AvrConfig => {
                 let (words, params) = settings::words(&mut self.random);
                 self.left = self.left / 2 + 4 * params;
@@ -176,12 +220,13 @@ impl Generator {
         words
     }
 
-    fn call(&mut self, view: View) -> Vec<String> {
+    fn call(&mut self, view: View, has_clock: bool) -> Vec<String> {
         let mut call = Caller {
             random: &mut self.random,
             model: self.leaning.model,
             first: self.first,
             view,
+            has_clock,
             walls: self.leaning.which != Which::Dsp,
             rigs: self.leaning.rigs,
         };

@@ -22,13 +22,15 @@ pub struct Readings<'a> {
     pub random: &'a mut Random,
     pub first: u64,
     pub view: View,
+    /// Whether readings are looked at; those of a Pi are in a session.
+    pub has_clock: bool,
 }
 
 impl Readings<'_> {
     /// A reading that is accepted.
     pub fn next(&mut self) -> u64 {
         let last = self.view.last;
-        if !self.view.which.has_clock() {
+        if !self.has_clock {
             return self.unread();
         }
         if last == 0 {

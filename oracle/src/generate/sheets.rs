@@ -6,9 +6,11 @@ use crate::list::MOST_LENT;
 
 const MOST: u64 = MOST_LENT as u64;
 
-/// The words of a call, for a sheet that has so many bytes.
-pub fn words(random: &mut Random, sheet: usize) -> Vec<String> {
+/// The words of a call, for a sheet that has so many bytes; in a session with
+/// the letter of its start-up.
+pub fn words(random: &mut Random, letter: Option<char>, sheet: usize) -> Vec<String> {
     let mut words = vec!["sheet".to_string()];
+    words.extend(letter.map(String::from));
     if random.chance(80) {
         let (at, length) = lent(random, sheet as u64);
         words.push(kinds::number(random, at));

@@ -15,6 +15,7 @@ pub enum Reason {
     UnknownModel,
     UnknownSource,
     UnknownKind,
+    UnknownStartUp,
     Expected(&'static str),
     NotANumber,
     OutOfRange,
@@ -45,11 +46,12 @@ impl Bad {
 
 impl Reason {
     /// One of each, for counting. A missing field is named NAME here.
-    pub const ALL: [Reason; 20] = [
+    pub const ALL: [Reason; 21] = [
         Reason::UnknownCall,
         Reason::UnknownModel,
         Reason::UnknownSource,
         Reason::UnknownKind,
+        Reason::UnknownStartUp,
         Reason::Expected("NAME"),
         Reason::NotANumber,
         Reason::OutOfRange,
@@ -84,6 +86,7 @@ impl fmt::Display for Reason {
             Reason::UnknownModel => "unknown model: Mevo, Xi or Rig expected, or the facts of another, as no/yes/yes",
             Reason::UnknownSource => "unknown source: App, Pi, Avr or Dsp expected",
             Reason::UnknownKind => "unknown kind: docs/REPLAY.md names them all, and capitals count",
+            Reason::UnknownStartUp => "unknown start-up: D, A or P expected",
             Reason::Expected(name) => return write!(f, "{name}= expected"),
             Reason::NotANumber => "not a number: write one as 12 or 0x0C; a type id stands before the kind",
             Reason::OutOfRange => "out of range",

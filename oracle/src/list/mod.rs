@@ -22,7 +22,7 @@ pub const LONGEST: usize = 65_536;
 pub const MOST_LENT: usize = 1024;
 
 /// The words that calls begin with, but for a feed's.
-const CALLS: [&[u8]; 16] = [
+const CALLS: [&[u8]; 17] = [
     b"dsp",
     b"avr",
     b"pi",
@@ -31,6 +31,7 @@ const CALLS: [&[u8]; 16] = [
     b"mevo_settings",
     b"disarm",
     b"arm",
+    b"session",
     b"check",
     b"result",
     b"sheet",
@@ -51,6 +52,11 @@ pub enum Call {
     Result,
     /// With the place and how many bytes are lent, if they are given.
     Sheet {
+        lent: Option<(u64, usize)>,
+    },
+    /// The same in a session, of one of its start-ups.
+    SheetOf {
+        which: Which,
         lent: Option<(u64, usize)>,
     },
     Take,
@@ -78,6 +84,7 @@ pub enum Begin {
     Disarm,
     /// With the model, if one is given.
     Arm(Option<Model>),
+    Session,
 }
 
 /// What a settings run is begun with: the settings, or what makes them.
@@ -97,6 +104,7 @@ impl Begin {
             Begin::AvrConfig(_) => Which::AvrConfig,
             Begin::Disarm => Which::Disarm,
             Begin::Arm(_) => Which::Arm,
+            Begin::Session => Which::Session,
         }
     }
 }
@@ -127,7 +135,7 @@ pub fn read(line: &[u8], running: Option<Which>) -> Result<Option<Call>, Bad> {
     belongs(word, running)?;
     let call = match begin(word, &mut c)? {
         Some(begin) => Call::Begin(begin),
-        None => call(word, &mut c)?.ok_or(Bad::at(at, Reason::UnknownCall))?,
+        None => call(word, &mut c, running)?.ok_or(Bad::at(at, Reason::UnknownCall))?,
     };
     c.end()?;
     Ok(Some(call))
@@ -178,17 +186,18 @@ fn begin(word: &[u8], c: &mut Cursor) -> Result<Option<Begin>, Bad> {
         b"mevo_settings" => Begin::AvrConfig(settings::mevo(c)?),
         b"disarm" => Begin::Disarm,
         b"arm" => Begin::Arm(given_model(c)?),
+        b"session" => Begin::Session,
         _ => return Ok(None),
     }))
 }
 
 /// Any other call, if the word is one's.
-fn call(word: &[u8], c: &mut Cursor) -> Result<Option<Call>, Bad> {
+fn call(word: &[u8], c: &mut Cursor, running: Option<Which>) -> Result<Option<Call>, Bad> {
     Ok(Some(match word {
         b"feed" => Call::Feed(Box::new(feed(c)?)),
         b"check" => Call::Check { now: c.number()? },
         b"result" => Call::Result,
-        b"sheet" => sheet(c)?,
+        b"sheet" => sheet(c, running)?,
         b"take" => Call::Take,
         b"retries" => Call::Retries,
         b"ack" => ack(c)?,
@@ -250,15 +259,29 @@ impl Number for Lent {
     const SIGNED: bool = false;
 }
 
-fn sheet(c: &mut Cursor) -> Result<Call, Bad> {
+/// In a session it is told of which start-up.
+fn sheet(c: &mut Cursor, running: Option<Which>) -> Result<Call, Bad> {
+    if running != Some(Which::Session) {
+        return Ok(Call::Sheet { lent: buffer(c)? });
+    }
+    Ok(Call::SheetOf {
+        which: start_up(c)?,
+        lent: buffer(c)?,
+    })
+}
+
+fn buffer(c: &mut Cursor) -> Result<Option<(u64, usize)>, Bad> {
     if c.at_end() {
-        return Ok(Call::Sheet { lent: None });
+        return Ok(None);
     }
     let at = c.number()?;
     let Lent(length) = c.number()?;
-    Ok(Call::Sheet {
-        lent: Some((at, length)),
-    })
+    Ok(Some((at, length)))
+}
+
+fn start_up(c: &mut Cursor) -> Result<Which, Bad> {
+    let (at, word) = c.word();
+    Which::of_letter(word).ok_or(Bad::at(at, Reason::UnknownStartUp))
 }
 
 fn ack(c: &mut Cursor) -> Result<Call, Bad> {

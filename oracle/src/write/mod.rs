@@ -126,9 +126,11 @@ pub fn reading(out: &mut String, field: &str, value: Option<u64>) {
     }
 }
 
-/// The entry that a call has ticked, before what is sent.
-pub fn ticked(out: &mut String, entry: usize) {
+/// The entry that a call has ticked, before what is sent; in a session behind
+/// its start-up's letter.
+pub fn ticked(out: &mut String, letter: Option<char>, entry: usize) {
     out.push_str("ticked ");
+    out.extend(letter);
     decimal(out, entry as u64);
     out.push_str("; ");
 }
@@ -136,6 +138,10 @@ pub fn ticked(out: &mut String, entry: usize) {
 /// The step that is next, at the end of an answer.
 pub fn step(out: &mut String, step: Step) {
     out.push_str("; ");
+    step_words(out, step);
+}
+
+pub fn step_words(out: &mut String, step: Step) {
     out.push_str(step.name);
     match step.fields {
         Fields::None => {}
@@ -172,6 +178,19 @@ pub fn send(out: &mut String, action: Option<&Action>) {
 pub fn sends(out: &mut String, actions: &[Action]) {
     assert!(actions.len() <= 1, "more than one send: {actions:?}");
     send(out, actions.first());
+}
+
+/// The sends of a call that may have more.
+pub fn each_send(out: &mut String, actions: &[Action]) {
+    if actions.is_empty() {
+        return send(out, None);
+    }
+    for (place, action) in actions.iter().enumerate() {
+        if place > 0 {
+            out.push_str("; ");
+        }
+        send(out, Some(action));
+    }
 }
 
 fn command(out: &mut String, command: &Command) {
