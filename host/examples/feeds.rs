@@ -11,7 +11,7 @@ use wigtalom::{
     Action, AvrConfigResp, AvrSequencer, AvrStatus, BusAddr, CalDataResp, CalParamResp, CamConfig,
     ConfigAck, ConfigResp, DevInfoResp, DeviceModel, DisarmSequencer, DspQueryResp, DspSequencer,
     DspStatus, DspStatus46, Envelope, Message, NetConfigResp, ParamData, ParamValue, PiSequencer,
-    PiStatus, ProdInfoResp, Refusal, Text, TimeSync,
+    PiStatus, ProdInfoResp, Refusal, Session, Text, TimeSync,
 };
 
 const ROUNDS: u32 = 30;
@@ -29,6 +29,9 @@ fn main() {
     measure("AVR", &avr(), new, |seq, env| seq.feed(env, 7, 7), done);
     let (new, done) = (PiSequencer::new, PiSequencer::is_complete);
     measure("Pi", &pi(), new, PiSequencer::feed, done);
+    let whole = [dsp(), avr(), pi()].concat();
+    let (new, done) = (Session::new, Session::is_complete);
+    measure("session", &whole, new, |seq, env| seq.feed(env, 7, 7), done);
     let (new, done) = (DisarmSequencer::new, DisarmSequencer::is_complete);
     measure("disarm", &disarm(), new, DisarmSequencer::feed, done);
 }

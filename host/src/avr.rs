@@ -14,7 +14,7 @@ use crate::steps;
 
 /// The start-up of the AVR.
 #[derive(Debug, Clone)]
-pub struct AvrSequencer(CAvr);
+pub struct AvrSequencer(pub(crate) CAvr);
 
 /// What an AVR start-up gives.
 #[derive(Debug, Clone, PartialEq)]
@@ -187,7 +187,7 @@ fn payload(stored: &COptionStored) -> Option<Vec<u8>> {
     stored.some.then(|| stored.value.to_vec())
 }
 
-fn sync(sync: &CAvrSync) -> AvrSync {
+pub(crate) fn sync(sync: &CAvrSync) -> AvrSync {
     AvrSync {
         status: sync.status,
         dev_info: sync.dev_info.value(),

@@ -194,6 +194,11 @@ pub(crate) fn sends(action: &CAction) -> Vec<Action> {
     send(action).into_iter().collect()
 }
 
+/// Those of several places, in the order of sending.
+pub(crate) fn all_sends(actions: &[CAction]) -> Vec<Action> {
+    actions.iter().filter_map(send).collect()
+}
+
 /// The send, if there is one. It is proved that its numbers are of a case.
 pub(crate) fn send(action: &CAction) -> Option<Action> {
     if !action.some {

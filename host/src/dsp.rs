@@ -12,7 +12,7 @@ use crate::steps;
 
 /// The start-up of the DSP, and the detection of the model.
 #[derive(Debug, Clone)]
-pub struct DspSequencer(CDsp);
+pub struct DspSequencer(pub(crate) CDsp);
 
 /// What a DSP start-up gives.
 #[derive(Debug, Clone, PartialEq)]
@@ -180,7 +180,7 @@ impl DspSequencer {
     }
 }
 
-fn sync(sync: &CDspSync) -> DspSync {
+pub(crate) fn sync(sync: &CDspSync) -> DspSync {
     DspSync {
         status: sync.status.value(&sync.status_payload),
         hw_info: sync.hw_info.some.then_some(sync.hw_info.value),

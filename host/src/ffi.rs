@@ -6,7 +6,7 @@ use crate::message::RadarCal;
 use crate::records::{
     CArm, CArmFed, CAvr, CAvrConfig, CAvrConfigFed, CAvrFed, CAvrFinished, CDisarm, CDisarmFed,
     CDsp, CDspFed, CDspFinished, CDspTaken, CEnvelope, CKeepalive, CPi, CPiFed, CPiFinished,
-    CRetries, CSent, CSettings, CWritten,
+    CRetries, CSent, CSession, CSessionFed, CSessionFinished, CSessionTaken, CSettings, CWritten,
 };
 
 // SAFETY: the signatures and layouts are those of crates/host/src. A `safe fn` takes values alone.
@@ -57,6 +57,28 @@ unsafe extern "C" {
         payload: *const u8,
         payload_len: usize,
     ) -> CPiFed;
+
+    pub safe fn wigtalom_session_new() -> CSessionFed;
+    pub safe fn wigtalom_session_check(session: CSession, now: u64) -> CSessionFed;
+    pub safe fn wigtalom_session_result(session: CSession) -> CSessionFinished;
+    pub safe fn wigtalom_session_take_refused(session: CSession) -> CSessionTaken;
+    fn wigtalom_session_sheet(
+        session: CSession,
+        start_up: u8,
+        buf: *mut u8,
+        buf_len: usize,
+        at: usize,
+    ) -> CWritten;
+    fn wigtalom_session_feed(
+        session: CSession,
+        env: CEnvelope,
+        text: *const u8,
+        text_len: usize,
+        payload: *const u8,
+        payload_len: usize,
+        now: u64,
+        wall: u64,
+    ) -> CSessionFed;
 
     pub safe fn wigtalom_mode_only(mode: u8) -> CSettings;
     pub safe fn wigtalom_mevo_settings(
@@ -127,6 +149,7 @@ macro_rules! feed {
 feed!(dsp_feed(CDsp, now) -> CDspFed, wigtalom_dsp_feed);
 feed!(avr_feed(CAvr, now, wall) -> CAvrFed, wigtalom_avr_feed);
 feed!(pi_feed(CPi) -> CPiFed, wigtalom_pi_feed);
+feed!(session_feed(CSession, now, wall) -> CSessionFed, wigtalom_session_feed);
 feed!(avr_config_feed(CAvrConfig) -> CAvrConfigFed, wigtalom_avr_config_feed);
 feed!(arm_feed(CArm) -> CArmFed, wigtalom_arm_feed);
 feed!(disarm_feed(CDisarm) -> CDisarmFed, wigtalom_disarm_feed);
@@ -144,3 +167,10 @@ macro_rules! sheet {
 sheet!(dsp_sheet(CDsp), wigtalom_dsp_sheet);
 sheet!(avr_sheet(CAvr), wigtalom_avr_sheet);
 sheet!(pi_sheet(CPi), wigtalom_pi_sheet);
+
+/// The same of a session's start-up, which is told by its number.
+pub fn session_sheet((session, start_up): (CSession, u8), buf: &mut [u8], at: usize) -> CWritten {
+    let (to, len) = (buf.as_mut_ptr(), buf.len());
+    // SAFETY: pointer and length are those of a slice that the call alone has.
+    unsafe { wigtalom_session_sheet(session, start_up, to, len, at) }
+}

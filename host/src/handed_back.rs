@@ -6,7 +6,10 @@ use crate::BusAddr;
 use crate::device::DeviceModel;
 use crate::ffi::{self, Lent};
 use crate::message::{AvrStatus, ConfigAck, DspStatus, DspStatus80, Message, PiStatus};
-use crate::records::{CArm, CAvr, CAvrConfig, CDsp, CPi, CTick, CTicks, CWritten, MAX_TICKS};
+use crate::records::{
+    CArm, CAvr, CAvrConfig, CDsp, COptionAvr, COptionPi, CPi, CSession, CSessionFed, CTick, CTicks,
+    CWritten, MAX_TICKS,
+};
 use crate::settings::AvrSettings;
 use crate::unknown_numbers::env;
 
@@ -89,6 +92,22 @@ fn arm() -> CArm {
     seq
 }
 
+/// Whose AVR and Pi have begun, or haven't.
+fn session(some: bool) -> CSession {
+    CSession {
+        dsp: dsp(),
+        avr: COptionAvr { some, value: avr() },
+        pi: COptionPi { some, value: pi() },
+    }
+}
+
+/// Holds an answer to this refusal, no send and the same session.
+fn session_refused(fed: &CSessionFed, refusal: u8, session: &CSession) {
+    assert_eq!(fed.refusal, refusal);
+    assert!(fed.actions.iter().all(|action| !action.some));
+    assert_eq!(fed.session, *session);
+}
+
 #[test]
 fn by_a_refused_feed() {
     let long = [0x41; 257];
@@ -99,6 +118,10 @@ fn by_a_refused_feed() {
     let config = avr_config();
     refused!(ffi::avr_config_feed(config, &lent), TEXT_TOO_LONG, config);
     refused!(ffi::arm_feed(arm(), &lent), TEXT_TOO_LONG, arm());
+    for session in [true, false].map(session) {
+        let fed = ffi::session_feed(session, &lent, 7, 7);
+        session_refused(&fed, TEXT_TOO_LONG, &session);
+    }
 }
 
 #[test]
@@ -107,6 +130,10 @@ fn by_a_refused_check() {
     refused!(late, READING_TOO_LARGE, dsp());
     let late = ffi::wigtalom_avr_check(avr(), u64::MAX);
     refused!(late, READING_TOO_LARGE, avr());
+    for session in [true, false].map(session) {
+        let late = ffi::wigtalom_session_check(session, u64::MAX);
+        session_refused(&late, READING_TOO_LARGE, &session);
+    }
 }
 
 /// A sheet hands back no state. The buffer is as it was.
@@ -121,6 +148,10 @@ fn by_a_refused_sheet() {
         assert_eq!(ffi::dsp_sheet(dsp(), &mut buf, at), refused);
         assert_eq!(ffi::avr_sheet(avr(), &mut buf, at), refused);
         assert_eq!(ffi::pi_sheet(pi(), &mut buf, at), refused);
+        for start_up in [0, 1, 2] {
+            let of = (session(true), start_up);
+            assert_eq!(ffi::session_sheet(of, &mut buf, at), refused);
+        }
         assert_eq!(buf, [b'.'; 15]);
     }
 }
@@ -142,6 +173,48 @@ fn not_by_an_accepted_call() {
     assert_eq!((fed.refusal, fed.seq), (0, CPi { ticks, ..new }));
     let fed = ffi::arm_feed(arm(), &lent);
     assert_eq!((fed.refusal, fed.seq), (0, ffi::wigtalom_arm_new().seq));
+}
+
+/// Of a session, too; beside a start-up that hasn't begun stands a new one,
+/// the AVR's of a Mevo.
+#[test]
+fn not_by_an_accepted_call_of_a_session() {
+    let (lent, ticks) = (ack(BusAddr::App, &[]), ticks());
+    let new_dsp = ffi::wigtalom_dsp_new().seq;
+    let dsp = CDsp { ticks, ..new_dsp };
+    let avr = |model| ffi::wigtalom_avr_new_for(model).seq;
+    let new_pi = ffi::wigtalom_pi_new().seq;
+    let none = CSession {
+        dsp,
+        avr: COptionAvr {
+            some: false,
+            value: avr(DeviceModel::MEVO),
+        },
+        pi: COptionPi {
+            some: false,
+            value: new_pi,
+        },
+    };
+    let both = CSession {
+        dsp,
+        avr: COptionAvr {
+            some: true,
+            value: CAvr {
+                ticks,
+                ..avr(MODEL)
+            },
+        },
+        pi: COptionPi {
+            some: true,
+            value: CPi { ticks, ..new_pi },
+        },
+    };
+    for (handed, given) in [(session(false), none), (session(true), both)] {
+        let fed = ffi::session_feed(handed, &lent, 0, 0);
+        assert_eq!((fed.refusal, fed.session), (0, given));
+        let checked = ffi::wigtalom_session_check(handed, 0);
+        assert_eq!((checked.refusal, checked.session), (0, given));
+    }
 }
 
 /// Without a place for one tick more. No call gives more ticks than places.

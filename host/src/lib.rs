@@ -13,6 +13,9 @@
 //! A call that can't be answered is refused with a [`Refusal`], and leaves
 //! the sequencer as it was.
 //!
+//! A [`Session`] starts a whole unit up: it is handed whatever comes from the
+//! DSP, the AVR and the Pi, and has a start-up for each.
+//!
 //! ```
 //! use wigtalom::{BusAddr, DspSequencer, Envelope, Message, PiStatus};
 //!
@@ -42,6 +45,7 @@ mod message;
 mod pi;
 mod records;
 mod refusal;
+mod session;
 mod settings;
 mod sheet;
 mod steps;
@@ -73,5 +77,6 @@ pub use message::{
 };
 pub use pi::{PiSequencer, PiState, PiSync};
 pub use refusal::Refusal;
+pub use session::{Session, SessionState, SessionSync};
 pub use settings::{AvrSettings, MevoSettings};
-pub use sheet::{How, Tick};
+pub use sheet::{How, StartUp, Tick};

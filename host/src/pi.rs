@@ -6,7 +6,7 @@ use crate::command::Action;
 use crate::convert;
 use crate::ffi;
 use crate::message::{CamConfig, DevInfoResp, Envelope};
-use crate::records::CPi;
+use crate::records::{CPi, CPiSync};
 use crate::refusal::Refusal;
 use crate::sheet::{self, Tick};
 use crate::steps;
@@ -14,7 +14,7 @@ use crate::withheld::Withheld;
 
 /// The start-up of the camera's Pi.
 #[derive(Debug, Clone)]
-pub struct PiSequencer(CPi);
+pub struct PiSequencer(pub(crate) CPi);
 
 /// What a Pi start-up gives. `Debug` doesn't print the network.
 #[derive(Clone, PartialEq)]
@@ -125,13 +125,7 @@ impl PiSequencer {
     pub fn into_result(&self) -> Result<PiSync, Refusal> {
         let finished = ffi::wigtalom_pi_result(self.0);
         Refusal::check(finished.refusal)?;
-        let sync = &finished.sync;
-        Ok(PiSync {
-            dev_info: sync.dev_info.value(),
-            cam_config: sync.cam_config,
-            ssid: sync.ssid.0.text(),
-            password: sync.password.0.text(),
-        })
+        Ok(sync(&finished.sync))
     }
 
     /// The sheet of the entries ticked so far, with the letter P and the
@@ -167,5 +161,14 @@ impl PiSequencer {
             password: r.password.0.text(),
             ticks: self.0.ticks.value(),
         }
+    }
+}
+
+pub(crate) fn sync(sync: &CPiSync) -> PiSync {
+    PiSync {
+        dev_info: sync.dev_info.value(),
+        cam_config: sync.cam_config,
+        ssid: sync.ssid.0.text(),
+        password: sync.password.0.text(),
     }
 }

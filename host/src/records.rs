@@ -1,6 +1,6 @@
 //! The records that cross to the library and back, laid out as crates/host,
 //! crates/abi_values, abi_messages, abi, abi_sheet, abi_dsp, abi_avr, abi_pi,
-//! abi_avr_config, abi_arm and abi_disarm have them.
+//! abi_session, abi_avr_config, abi_arm and abi_disarm have them.
 
 use std::fmt;
 
@@ -359,6 +359,50 @@ records! {
     CPiFinished {
         refusal: u8,
         sync: CPiSync,
+    }
+}
+
+// The session.
+records! {
+    COptionAvr {
+        some: bool,
+        value: CAvr,
+    }
+
+    COptionPi {
+        some: bool,
+        value: CPi,
+    }
+
+    CSession {
+        dsp: CDsp,
+        avr: COptionAvr,
+        pi: COptionPi,
+    }
+
+    /// `actions` in the order of sending.
+    CSessionFed {
+        refusal: u8,
+        actions: [CAction; 2],
+        session: CSession,
+    }
+
+    COptionPiSync {
+        some: bool,
+        value: CPiSync,
+    }
+
+    CSessionFinished {
+        refusal: u8,
+        dsp: CDspSync,
+        avr: CAvrSync,
+        pi: COptionPiSync,
+    }
+
+    CSessionTaken {
+        refusal: u8,
+        refused: COptionNack,
+        session: CSession,
     }
 }
 

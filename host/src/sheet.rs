@@ -2,6 +2,17 @@
 
 use crate::records::{CWritten, MAX_TICKS};
 
+/// A start-up of a session.
+#[derive(Debug, Clone, Copy, PartialEq, Eq, Hash)]
+pub enum StartUp {
+    /// Of the DSP: `D` on a sheet.
+    Dsp,
+    /// Of the AVR: `A`.
+    Avr,
+    /// Of the camera's Pi: `P`.
+    Pi,
+}
+
 /// How an entry was ticked.
 #[derive(Debug, Clone, Copy, PartialEq, Eq, Hash)]
 pub enum How {
@@ -21,6 +32,17 @@ pub struct Tick {
     pub reading: u64,
     /// How it was ticked.
     pub how: How,
+}
+
+impl StartUp {
+    /// Its place in the library's enum.
+    pub(crate) fn number(self) -> u8 {
+        match self {
+            StartUp::Dsp => 0,
+            StartUp::Avr => 1,
+            StartUp::Pi => 2,
+        }
+    }
 }
 
 /// The longest line: a letter, two digits, the 20 of a reading, a letter,
@@ -45,7 +67,9 @@ mod tests {
     use super::{ROOM, whole};
     use crate::device::DeviceModel;
     use crate::ffi;
-    use crate::records::{CAvr, CDsp, CPi, CTick, CTicks, MAX_TICKS};
+    use crate::records::{
+        CAvr, CDsp, COptionAvr, COptionPi, CPi, CSession, CTick, CTicks, MAX_TICKS,
+    };
 
     /// Holds a sheet to the longest of this letter. Beside the number a line
     /// has 26 bytes: two letters, three commas, the 20 digits of the largest
@@ -66,9 +90,20 @@ mod tests {
         };
         let (dsp, pi) = (ffi::wigtalom_dsp_new().seq, ffi::wigtalom_pi_new().seq);
         let avr = ffi::wigtalom_avr_new_for(DeviceModel::MEVO).seq;
-        longest(&whole(CDsp { ticks, ..dsp }, ffi::dsp_sheet), 'D');
-        longest(&whole(CAvr { ticks, ..avr }, ffi::avr_sheet), 'A');
-        longest(&whole(CPi { ticks, ..pi }, ffi::pi_sheet), 'P');
+        let (dsp, avr) = (CDsp { ticks, ..dsp }, CAvr { ticks, ..avr });
+        let pi = CPi { ticks, ..pi };
+        longest(&whole(dsp, ffi::dsp_sheet), 'D');
+        longest(&whole(avr, ffi::avr_sheet), 'A');
+        longest(&whole(pi, ffi::pi_sheet), 'P');
+        let some = true;
+        let (avr, pi) = (
+            COptionAvr { some, value: avr },
+            COptionPi { some, value: pi },
+        );
+        let session = CSession { dsp, avr, pi };
+        longest(&whole((session, 0), ffi::session_sheet), 'D');
+        longest(&whole((session, 1), ffi::session_sheet), 'A');
+        longest(&whole((session, 2), ffi::session_sheet), 'P');
     }
 
     /// As README.md tells a host.

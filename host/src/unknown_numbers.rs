@@ -6,7 +6,10 @@ use crate::BusAddr;
 use crate::device::DeviceModel;
 use crate::ffi::{self, Lent};
 use crate::message::{AvrStatus, ConfigAck, DspStatus, DspStatus46, Envelope, Message};
-use crate::records::{CAvr, CDsp, CEnvelope, CPi, CSettings, CTicks, CWritten};
+use crate::records::{
+    CAvr, CDsp, CEnvelope, COptionAvr, COptionPi, CPi, CSession, CSessionFed, CSettings, CTicks,
+    CWritten,
+};
 use crate::settings::AvrSettings;
 
 const UNKNOWN: u8 = 21;
@@ -19,6 +22,13 @@ macro_rules! declined {
         assert!(!fed.action.some);
         assert_eq!(fed.seq, seq);
     }};
+}
+
+/// The same of a session's answer.
+fn session_declined(fed: &CSessionFed, session: &CSession) {
+    assert_eq!(fed.refusal, UNKNOWN);
+    assert!(fed.actions.iter().all(|action| !action.some));
+    assert_eq!(fed.session, *session);
 }
 
 /// Holds a sheet to 21, and the lent buffer to what it was. A place past its
@@ -109,7 +119,20 @@ fn avr() -> CAvr {
     fed.seq
 }
 
-/// Hands an envelope to each sequence.
+/// A session all of whose start-ups have begun, or its DSP's alone. No calls
+/// give it.
+fn session(some: bool) -> CSession {
+    CSession {
+        dsp: dsp(),
+        avr: COptionAvr { some, value: avr() },
+        pi: COptionPi {
+            some,
+            value: ffi::wigtalom_pi_new().seq,
+        },
+    }
+}
+
+/// Hands an envelope to each sequence, and to a session.
 fn feed_each(lent: &Lent) {
     let dsp = dsp();
     declined!(ffi::dsp_feed(dsp, lent, 7), dsp);
@@ -123,6 +146,8 @@ fn feed_each(lent: &Lent) {
     declined!(ffi::arm_feed(arm, lent), arm);
     let disarm = ffi::wigtalom_disarm_new().seq;
     declined!(ffi::disarm_feed(disarm, lent), disarm);
+    let session = session(true);
+    session_declined(&ffi::session_feed(session, lent, 7, 7), &session);
 }
 
 #[test]
@@ -216,6 +241,58 @@ fn of_a_pi_start_up_and_a_disarm() {
     let mut disarm = ffi::wigtalom_disarm_new().seq;
     disarm.step = 4;
     declined!(ffi::disarm_feed(disarm, &ack()), disarm);
+}
+
+/// Sessions with a number that no case has in one of their start-ups, which
+/// may not have begun.
+fn wrong_sessions() -> Vec<CSession> {
+    let mut wrong = Vec::new();
+    for some in [true, false] {
+        let mut with = |change: fn(&mut CSession)| {
+            let mut session = session(some);
+            change(&mut session);
+            wrong.push(session);
+        };
+        with(|session| session.dsp.step = 9);
+        with(|session| session.dsp.status.value.layout = 2);
+        with(|session| session.dsp.ticks.ticks[15].how = 3);
+        with(|session| session.avr.value.step = 13);
+        with(|session| session.avr.value.ticks.ticks[0].how = 3);
+        with(|session| session.pi.value.step.number = 9);
+        with(|session| session.pi.value.ticks.ticks[15].how = 255);
+    }
+    wrong
+}
+
+#[test]
+fn of_a_session() {
+    let long = [0x41; 257];
+    let longer = Lent {
+        text: &long,
+        ..ack()
+    };
+    for session in wrong_sessions() {
+        for (lent, now) in [(ack(), 7), (longer, 7), (ack(), u64::MAX), (ack(), 0)] {
+            session_declined(&ffi::session_feed(session, &lent, now, 7), &session);
+            session_declined(&ffi::wigtalom_session_check(session, now), &session);
+        }
+        assert_eq!(ffi::wigtalom_session_result(session).refusal, UNKNOWN);
+        let taken = ffi::wigtalom_session_take_refused(session);
+        assert_eq!((taken.refusal, taken.session), (UNKNOWN, session));
+        assert!(!taken.refused.some);
+        for start_up in [0, 1, 2, 3] {
+            not_written((session, start_up), ffi::session_sheet);
+        }
+    }
+}
+
+#[test]
+fn of_a_start_up_of_a_session() {
+    for some in [true, false] {
+        for start_up in [3, 4, 255] {
+            not_written((session(some), start_up), ffi::session_sheet);
+        }
+    }
 }
 
 #[test]

@@ -7,19 +7,23 @@
 //! is compared after each call with what the oracle keeps by the Rust's steps,
 //! and where a place is given the whole buffer. Bytes that are lent to a kind
 //! without a place for them are left out on both sides. A run of an arm ends
-//! before a text on which the rules differ.
+//! before a text on which the rules differ. A session, which the Rust hasn't,
+//! is compared with one over the Rust's three start-ups (bridge/session.rs).
 //!
-//! WIGTALOM_CALLS says how many calls of each sequence, WIGTALOM_SEED from
-//! which seed.
+//! WIGTALOM_CALLS says how many calls of each sequence, and of sessions,
+//! WIGTALOM_SEED from which seed.
 
 mod bridge;
 
+use std::collections::BTreeMap;
 use std::env;
 use std::io::{self, Write};
 
 use bridge::fields::{Fields, Value};
 use bridge::pair::place;
 use bridge::run::{Counts, run};
+use bridge::rust::DeviceModel;
+use bridge::session;
 use oracle::compare::LONG_ARM_CALLS;
 use oracle::list::Which;
 
@@ -60,6 +64,7 @@ fn nothing_missing(which: Which, counts: &Counts) {
         Which::AvrConfig => (&[1, 2, 4, 6], true),
         Which::Disarm => (&[1, 2], false),
         Which::Arm => (&[1, 2, 13], false),
+        Which::Session => unreachable!("no sequence"),
     };
     assert!(counts.refused.keys().eq(refused));
     let [given, answered, stored] = counts.nans;
@@ -89,15 +94,15 @@ fn print(which: Which, seed: u64, counts: &[Counts; 6]) {
             text += &format!("{} cut where the rules differ; ", counts.cut);
         }
         text += &format!("NaNs: {given} handed in, {answered} compared in answers, ");
-        text += &format!("{stored} in states; refused: {}\n", refused(counts));
+        text += &format!("{stored} in states; refused: {}\n", told(&counts.refused));
     }
     let _ = io::stdout().write_all(text.as_bytes());
 }
 
 /// How many calls were refused with which number.
-fn refused(counts: &Counts) -> String {
+fn told(refused: &BTreeMap<u8, u64>) -> String {
     let told = |(number, count): (&u8, &u64)| format!("{count} with {number}");
-    let told: Vec<String> = counts.refused.iter().map(told).collect();
+    let told: Vec<String> = refused.iter().map(told).collect();
     match told.is_empty() {
         true => "none".into(),
         false => told.join(", "),
@@ -132,6 +137,33 @@ fn disarm() {
 #[test]
 fn arm() {
     compare(Which::Arm);
+}
+
+/// Half of the calls in sessions that lean towards each model.
+#[test]
+fn sessions() {
+    let (calls, seed) = (given("WIGTALOM_CALLS", CALLS), given("WIGTALOM_SEED", SEED));
+    for model in [DeviceModel::Mevo, DeviceModel::Xi] {
+        let met = session::run(model, calls.div_ceil(2), seed, |_| {});
+        let met = met.unwrap_or_else(|difference| {
+            panic!("WIGTALOM_SEED={seed} WIGTALOM_CALLS={calls}, sessions: {difference}")
+        });
+        let (label, [fed, checked]) = (model.label(), met.dsps);
+        let text = format!(
+            "\nsessions of a {label}, seed {seed}: no difference\n  {} calls, {} sessions to \
+             the end; DSPs ended by feeds {fed}, by checks {checked}; {} calls with two sends; \
+             refused: {}\n",
+            met.calls,
+            met.complete,
+            met.two_sends,
+            told(&met.refused)
+        );
+        let _ = io::stdout().write_all(text.as_bytes());
+        if calls >= LONG_ARM_CALLS {
+            assert!(met.refused.keys().eq(&[1, 2, 3, 5, 11, 12]));
+            assert!(fed > 0 && checked > 0 && met.two_sends > 0 && met.complete > 0);
+        }
+    }
 }
 
 /// Flips a bit of this field, where it is a NaN.
@@ -252,4 +284,54 @@ fn a_lost_send_and_a_wrong_number_are_noticed() {
     must_differ(Which::Dsp, |f| wrong(f, 11, 3), "refused");
     must_differ(Which::AvrConfig, |f| wrong(f, 6, 4), "refused");
     must_differ(Which::AvrConfig, |f| wrong(f, 6, 0), "refused");
+}
+
+/// A session with altered answers must tell a difference in this field.
+fn session_must_differ(alter: fn(&mut Fields), field: &str) {
+    match session::run(DeviceModel::Mevo, 20_000, SEED, alter) {
+        Ok(_) => panic!("not noticed"),
+        Err(difference) => {
+            let named = format!("(\"{field}\", ");
+            assert!(difference.contains(&named), "{difference}");
+        }
+    }
+}
+
+#[test]
+fn a_wrong_session_is_noticed() {
+    let turned = |f: &mut Fields| {
+        let is_dest = |(_, (name, _)): &(usize, &(&str, Value))| *name == "dest";
+        let dests: Vec<usize> = f
+            .list
+            .iter()
+            .enumerate()
+            .filter(is_dest)
+            .map(|(i, _)| i)
+            .collect();
+        if let [one, other] = dests[..] {
+            f.list.swap(one, other);
+        }
+    };
+    session_must_differ(turned, "dest");
+    let done_too_early = |f: &mut Fields| {
+        for (name, value) in &mut f.list {
+            if *name == "refused" && *value == Value::Number(12) {
+                *value = Value::Number(0);
+            }
+        }
+    };
+    session_must_differ(done_too_early, "refused");
+    fn lost(fields: &mut Fields, letter: &str) {
+        for (name, value) in &mut fields.list {
+            match value {
+                Value::Bytes(bytes) if *name == "sheet" && bytes.starts_with(letter.as_bytes()) => {
+                    bytes.clear();
+                }
+                _ => {}
+            }
+        }
+    }
+    session_must_differ(|f| lost(f, "D"), "sheet");
+    session_must_differ(|f| lost(f, "A"), "sheet");
+    session_must_differ(|f| lost(f, "P"), "sheet");
 }

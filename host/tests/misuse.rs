@@ -3,8 +3,9 @@
 
 use wigtalom::{
     ArmSequencer, AvrConfigSequencer, AvrSequencer, AvrSettings, AvrStatus, BusAddr, ConfigAck,
-    DevInfoResp, DeviceModel, DisarmSequencer, DspSequencer, DspStatus, DspStatus46, Envelope,
-    Message, MevoSettings, ParamData, ParamValue, PiSequencer, PiStatus, RadarCal, Refusal, Text,
+    ConfigResp, DevInfoResp, DeviceModel, DisarmSequencer, DspQueryResp, DspSequencer, DspStatus,
+    DspStatus46, Envelope, Message, MevoSettings, ParamData, ParamValue, PiSequencer, PiStatus,
+    ProdInfoResp, RadarCal, Refusal, Session, StartUp, Text,
 };
 
 const LAST_READING: u64 = 18_446_744_071_709_551_615;
@@ -36,6 +37,28 @@ fn dsp_status() -> Envelope {
     env(BusAddr::Dsp, Message::DspStatus(status))
 }
 
+/// A session of a Mevo whose DSP is done at reading 1, so that the AVR and
+/// the Pi have begun.
+fn dsp_done() -> Session {
+    let prod_info = || Message::ProdInfoResp(ProdInfoResp::default());
+    let replies = [
+        Message::DspStatus(DspStatus::V46(DspStatus46::default())),
+        Message::DspQueryResp(DspQueryResp::default()),
+        Message::DevInfoResp(DevInfoResp::default()),
+        prod_info(),
+        prod_info(),
+        prod_info(),
+        Message::ConfigResp(ConfigResp { params: [0; 34] }),
+    ];
+    let (mut session, _) = Session::new();
+    for reply in replies {
+        session.feed(&env(BusAddr::Dsp, reply), 1, 0).unwrap();
+    }
+    let state = session.state();
+    assert_eq!((state.dsp.step, state.pi.is_some()), ("Done", true));
+    session
+}
+
 /// Each sequence refuses this, and is then as it was.
 fn all_refuse(env: &Envelope, refusal: Refusal) {
     macro_rules! refuses {
@@ -52,6 +75,8 @@ fn all_refuse(env: &Envelope, refusal: Refusal) {
     refuses!(AvrConfigSequencer::new(AvrSettings::mode_only(9)).unwrap());
     refuses!(ArmSequencer::new_for(DeviceModel::MEVO));
     refuses!(DisarmSequencer::new());
+    refuses!(Session::new(), 1, 1);
+    refuses!((dsp_done(), ()), 1, 1);
 }
 
 #[test]
@@ -91,6 +116,24 @@ fn a_reading_too_large() {
         Ok(1)
     );
     assert_eq!(dsp.state().deadline, Some(LAST_READING + 2_000_000_000));
+}
+
+/// Once for the whole session, whether the others have begun or not.
+#[test]
+fn a_reading_too_large_for_a_session() {
+    let refused = Err(Refusal::ReadingTooLarge);
+    for mut session in [Session::new().0, dsp_done()] {
+        let fresh = session.state();
+        for now in [LAST_READING + 1, u64::MAX] {
+            assert_eq!(session.feed(&dsp_status(), now, 0), refused);
+            assert_eq!(session.check(now), refused);
+        }
+        // A text that is too long comes before it.
+        let long = session.feed(&text(257), u64::MAX, 0);
+        assert_eq!(long, Err(Refusal::TextTooLong));
+        assert_eq!(session.state(), fresh);
+        assert_eq!(session.check(LAST_READING), Ok(vec![]));
+    }
 }
 
 /// Settings with these ids; an even place has an integer, an odd one a float.
@@ -222,6 +265,32 @@ fn a_place_past_the_end_for_an_empty_sheet() {
     written("", |buf, at| pi.sheet_into(buf, at));
 }
 
+/// Those of start-ups that haven't begun are empty, and 5 is told all the
+/// same.
+#[test]
+fn sheets_of_a_session() {
+    let (session, _) = Session::new();
+    for start_up in [StartUp::Dsp, StartUp::Avr, StartUp::Pi] {
+        assert_eq!(session.sheet(start_up), "");
+        written("", |buf, at| session.sheet_into(start_up, buf, at));
+    }
+    let mut session = dsp_done();
+    let dsp: String = (1..=7).map(|number| format!("D,{number},1,R\n")).collect();
+    let sheet = |session: &Session, start_up, text: &str| {
+        assert_eq!(session.sheet(start_up), text);
+        written(text, |buf, at| session.sheet_into(start_up, buf, at));
+    };
+    sheet(&session, StartUp::Dsp, &dsp);
+    sheet(&session, StartUp::Avr, "");
+    let status = Message::AvrStatus(AvrStatus::default());
+    session.feed(&env(BusAddr::Avr, status), 10, 0).unwrap();
+    let status = Message::PiStatus(PiStatus::default());
+    session.feed(&env(BusAddr::Pi, status), 11, 0).unwrap();
+    sheet(&session, StartUp::Dsp, &dsp);
+    sheet(&session, StartUp::Avr, "A,1,10,R\n");
+    sheet(&session, StartUp::Pi, "P,1,0,R\n");
+}
+
 /// With the length of a sheet added some of them would come out small.
 #[test]
 fn a_place_far_past_the_end() {
@@ -254,6 +323,39 @@ fn a_reading_that_goes_back() {
     assert_eq!(avr.state(), before);
 }
 
+/// Below the session's last reading, whoever it is for: the AVR, which has
+/// just begun and has had none, and the Pi, which has no clock.
+#[test]
+fn a_reading_that_goes_back_in_a_session() {
+    let mut session = dsp_done();
+    assert_eq!(session.check(1_000), Ok(vec![]));
+    let refused = Err(Refusal::ReadingBelowLast);
+    let before = session.state();
+    let avr_status = Message::AvrStatus(AvrStatus::default());
+    let pi_status = Message::PiStatus(PiStatus::default());
+    let from_avr = env(BusAddr::Avr, avr_status);
+    let from_pi = env(BusAddr::Pi, pi_status);
+    for env in [&dsp_status(), &from_avr, &from_pi] {
+        assert_eq!(session.feed(env, 999, 0), refused);
+    }
+    assert_eq!(session.check(999), refused);
+    assert_eq!(session.state(), before);
+    // The same reading again is accepted, by each.
+    for env in [&dsp_status(), &from_avr, &from_pi] {
+        assert!(session.feed(env, 1_000, 0).is_ok());
+    }
+    let state = session.state();
+    let (avr, pi) = (state.avr.unwrap(), state.pi.unwrap());
+    assert_eq!((avr.ticks.len(), pi.ticks.len()), (1, 1));
+    assert_eq!((state.dsp.last, avr.last), (1_000, 1_000));
+
+    // Of an AVR that has just begun, by the DSP's last one.
+    let mut session = dsp_done();
+    assert_eq!(session.state().avr.unwrap().last, 0);
+    assert_eq!(session.feed(&from_avr, 0, 0), refused);
+    assert_eq!(session.feed(&from_pi, 0, 0), refused);
+}
+
 #[test]
 fn an_early_result() {
     let (dsp, _) = DspSequencer::new();
@@ -264,6 +366,15 @@ fn an_early_result() {
     assert_eq!(pi.into_result().unwrap_err(), Refusal::NotDone);
     // The sequencers are still there.
     assert!(!dsp.is_complete() && !avr.is_complete() && !pi.is_complete());
+}
+
+/// Also with the DSP done. (With the AVR or the Pi done: tests/session.rs.)
+#[test]
+fn an_early_result_of_a_session() {
+    for session in [Session::new().0, dsp_done()] {
+        assert_eq!(session.into_result(), Err(Refusal::NotDone));
+        assert!(!session.is_complete());
+    }
 }
 
 #[test]

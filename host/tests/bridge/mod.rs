@@ -6,6 +6,7 @@ pub mod floats;
 pub mod over;
 pub mod pair;
 pub mod run;
+pub mod session;
 pub mod sides;
 
 /// The Rust's types, under one name.

@@ -116,7 +116,7 @@ impl<R: Theirs + 'static, O: Ours + 'static> Pair<R, O> {
         }
         0u8.put("refused", &mut to.rust);
         actions.put("sends", &mut to.rust);
-        put_answer(ours, to);
+        put_answer(ours, &mut to.ours);
     }
 
     /// An accepted call ticks an entry exactly if it changes the step.
@@ -212,21 +212,21 @@ impl<R: Theirs + 'static, O: Ours + 'static> Running for Pair<R, O> {
 fn refused(number: u8, ours: &Answer, to: &mut Answers) {
     to.refused = Some(number);
     number.put("refused", &mut to.rust);
-    put_answer(ours, to);
+    put_answer(ours, &mut to.ours);
 }
 
-fn put_answer(ours: &Answer, to: &mut Answers) {
+pub fn put_answer(ours: &Answer, to: &mut Fields) {
     match ours {
         Ok(actions) => {
-            0u8.put("refused", &mut to.ours);
-            actions.put("sends", &mut to.ours);
+            0u8.put("refused", to);
+            actions.put("sends", to);
         }
-        Err(refusal) => refusal.number().put("refused", &mut to.ours),
+        Err(refusal) => refusal.number().put("refused", to),
     }
 }
 
 /// What a sheet answers, and the buffer then.
-fn put_written(written: Result<usize, u8>, buf: Vec<u8>, to: &mut Fields) {
+pub fn put_written(written: Result<usize, u8>, buf: Vec<u8>, to: &mut Fields) {
     written.err().unwrap_or(0).put("refused", to);
     written.unwrap_or(0).put("wrote", to);
     buf.put("buffer", to);
@@ -234,7 +234,7 @@ fn put_written(written: Result<usize, u8>, buf: Vec<u8>, to: &mut Fields) {
 
 /// A `SystemTime` holds 63 bits of seconds. Without the highest of the 64
 /// their remainder by 2^32 is the same.
-fn wall(seconds: u64) -> SystemTime {
+pub fn wall(seconds: u64) -> SystemTime {
     UNIX_EPOCH + Duration::from_secs(seconds & (u64::MAX >> 1))
 }
 
@@ -272,6 +272,7 @@ pub fn begin(begin: &Begin, to: &mut Answers) -> Box<dyn Running> {
             let ours = model.map_or_else(wigtalom::ArmSequencer::new, new_for);
             Pair::begin(theirs, ours, to)
         }
+        Begin::Session => unreachable!("no list of a sequence has one"),
     }
 }
 

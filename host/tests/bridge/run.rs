@@ -168,7 +168,7 @@ impl Run {
 }
 
 /// Whether a payload has the rig's tag, which none of its lists has.
-fn names_a_rig(call: &Call) -> bool {
+pub fn names_a_rig(call: &Call) -> bool {
     const RIG_TAG: &[u8] = b"BAY RIG";
     let payload = match call {
         Call::Feed(feed) => &feed.payload,

@@ -132,9 +132,14 @@ impl Ours for wigtalom::DspSequencer {
     }
 
     fn put_state(&self, to: &mut Fields) {
-        let state = self.state();
-        put!(to, state: step, status, hw_info, dev_info, prod_info, config, refused);
-        put!(to, state: power_mode_unanswered, deadline, last, ticks);
+        self.state().put("state", to);
+    }
+}
+
+impl Compared for wigtalom::DspState {
+    fn put(&self, _: &'static str, to: &mut Fields) {
+        put!(to, self: step, status, hw_info, dev_info, prod_info, config, refused);
+        put!(to, self: power_mode_unanswered, deadline, last, ticks);
     }
 }
 
@@ -164,9 +169,14 @@ impl Ours for wigtalom::AvrSequencer {
     }
 
     fn put_state(&self, to: &mut Fields) {
-        let state = self.state();
-        put!(to, state: step, model, status, dev_info, config, factory_cal, if_cal, avr_config);
-        put!(to, state: cal_deadline, repoll_at, last, ticks);
+        self.state().put("state", to);
+    }
+}
+
+impl Compared for wigtalom::AvrState {
+    fn put(&self, _: &'static str, to: &mut Fields) {
+        put!(to, self: step, model, status, dev_info, config, factory_cal, if_cal, avr_config);
+        put!(to, self: cal_deadline, repoll_at, last, ticks);
     }
 }
 
@@ -189,8 +199,13 @@ impl Ours for wigtalom::PiSequencer {
     feed_without_clock!();
 
     fn put_state(&self, to: &mut Fields) {
-        let state = self.state();
-        put!(to, state: step, idx, dev_info, cam_config, ssid, password, ticks);
+        self.state().put("state", to);
+    }
+}
+
+impl Compared for wigtalom::PiState {
+    fn put(&self, _: &'static str, to: &mut Fields) {
+        put!(to, self: step, idx, dev_info, cam_config, ssid, password, ticks);
     }
 }
 
