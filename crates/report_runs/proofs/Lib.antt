@@ -1,0 +1,5 @@
+pub mod Sums
+pub mod Ticks
+pub mod StartUps
+pub mod Whole
+mod Days
