@@ -1,0 +1,4 @@
+pub mod Sends
+pub mod ReadBack
+pub mod Inverse
+pub mod Ran
