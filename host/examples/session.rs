@@ -115,6 +115,8 @@ fn main() -> Result<(), Refusal> {
 fn tell(result: &SessionSync) {
     println!("\n{:?}", result.dsp.model);
     if let Some(pi) = &result.pi {
-        println!("the camera's network: {}", pi.ssid);
+        let camera = &pi.cam_config;
+        let (width, height) = (camera.resolution_width, camera.resolution_height);
+        println!("a camera of {width} x {height}");
     }
 }
