@@ -1,6 +1,7 @@
 //! A refusal changes nothing: the very state that was handed in comes back,
-//! with what stands in it beside a record that is told as absent. No call gives
-//! such a state, so the library is called as C would.
+//! with what stands in it beside a record that is told as absent. An accepted
+//! call gives that back, too, where it leaves the record alone, and a result
+//! has it. No call gives such a state, so the library is called as C would.
 
 use crate::BusAddr;
 use crate::device::DeviceModel;
@@ -156,23 +157,85 @@ fn by_a_refused_sheet() {
     }
 }
 
-/// An accepted call doesn't look at it, and gives back zeros there. The
-/// places of ticks are all looked at, and come back.
+/// An accepted call that leaves the records alone gives back what stood beside
+/// them. Beside a step that has none an index is 0.
 #[test]
-fn not_by_an_accepted_call() {
-    let (lent, ticks) = (ack(BusAddr::App, &[]), ticks());
+fn by_an_accepted_call() {
+    let lent = ack(BusAddr::App, &[]);
     let fed = ffi::dsp_feed(dsp(), &lent, 0);
-    let new = ffi::wigtalom_dsp_new().seq;
-    assert_eq!((fed.refusal, fed.seq), (0, CDsp { ticks, ..new }));
+    assert_eq!((fed.refusal, fed.seq), (0, dsp()));
+    let checked = ffi::wigtalom_dsp_check(dsp(), 0);
+    assert_eq!((checked.refusal, checked.seq), (0, dsp()));
     let fed = ffi::avr_feed(avr(), &lent, 0, 0);
-    let new = ffi::wigtalom_avr_new_for(MODEL).seq;
-    assert_eq!((fed.refusal, fed.seq), (0, CAvr { ticks, ..new }));
-    assert_eq!(new.model, MODEL);
+    assert_eq!((fed.refusal, fed.seq), (0, avr()));
+    assert_eq!(fed.seq.model, MODEL);
+    let checked = ffi::wigtalom_avr_check(avr(), 0);
+    assert_eq!((checked.refusal, checked.seq), (0, avr()));
     let fed = ffi::pi_feed(pi(), &lent);
-    let new = ffi::wigtalom_pi_new().seq;
-    assert_eq!((fed.refusal, fed.seq), (0, CPi { ticks, ..new }));
+    let step = ffi::wigtalom_pi_new().seq.step;
+    assert_eq!((fed.refusal, fed.seq), (0, CPi { step, ..pi() }));
+    let fed = ffi::avr_config_feed(avr_config(), &lent);
+    let step = ffi::wigtalom_avr_config_new(AvrSettings::mode_only(9).record())
+        .seq
+        .step;
+    let given = CAvrConfig {
+        step,
+        ..avr_config()
+    };
+    assert_eq!((fed.refusal, fed.seq), (0, given));
     let fed = ffi::arm_feed(arm(), &lent);
     assert_eq!((fed.refusal, fed.seq), (0, ffi::wigtalom_arm_new().seq));
+}
+
+/// A deadline ends with its step, and then nothing stands beside it.
+#[test]
+fn not_behind_the_step_of_a_deadline() {
+    let refused = ConfigAck {
+        acked_cmd: 0x48,
+        ..ConfigAck::default()
+    };
+    let lent = env(BusAddr::Dsp, Message::ConfigNack(refused));
+    let waiting = CDsp { step: 1, ..dsp() };
+    let fed = ffi::dsp_feed(waiting, &lent.lent(), 7);
+    assert_eq!((fed.refusal, fed.seq.step), (0, 2));
+    assert_eq!((fed.seq.deadline.some, fed.seq.deadline.value), (false, 0));
+    assert_eq!(fed.seq.refused, dsp().refused);
+    let lent = env(BusAddr::Avr, Message::AvrStatus(AvrStatus::default()));
+    let fed = ffi::avr_feed(avr(), &lent.lent(), 7, 7);
+    assert_eq!((fed.refusal, fed.seq.step), (0, 1));
+    let at = fed.seq.repoll_at;
+    assert_eq!((at.some, at.value), (false, 0));
+    assert_eq!(fed.seq.replies.if_cal, avr().replies.if_cal);
+}
+
+/// A result has no flag for the replies that every done start-up has.
+#[test]
+fn by_a_result() {
+    let done = CDsp { step: 8, ..dsp() };
+    let result = ffi::wigtalom_dsp_result(done);
+    assert_eq!(result.refusal, 0);
+    assert_eq!(result.sync.status_payload, done.status.payload);
+    assert_eq!(result.sync.dev_info, done.dev_info.value);
+    assert_eq!(result.sync.hw_info, done.hw_info);
+    let done = CAvr { step: 12, ..avr() };
+    let result = ffi::wigtalom_avr_result(done);
+    assert_eq!(result.refusal, 0);
+    assert_eq!(result.sync.if_cal, done.replies.if_cal);
+    assert_eq!(result.sync.status, done.replies.status.value);
+    let mut done = pi();
+    done.step.number = 8;
+    let result = ffi::wigtalom_pi_result(done);
+    assert_eq!(result.refusal, 0);
+    assert_eq!(result.sync.dev_info, done.replies.dev_info.value);
+}
+
+/// What stands beside an absent nack is given, and is then taken.
+#[test]
+fn by_taking_no_nack() {
+    let taken = ffi::wigtalom_dsp_take_refused(dsp());
+    assert_eq!((taken.refusal, taken.refused), (0, dsp().refused));
+    let refused = ffi::wigtalom_dsp_new().seq.refused;
+    assert_eq!(taken.seq, CDsp { refused, ..dsp() });
 }
 
 /// Of a session, too; beside a start-up that hasn't begun stands a new one,

@@ -1,5 +1,6 @@
 pub mod Sends
 pub mod Fed
+pub mod Beside
 pub mod Untimed
 pub mod Timed
 pub mod Sheets

@@ -12,6 +12,7 @@ use Rattle.avr.specs.Answers as avr
 use Rattle.abi_messages.specs.declared.CEnvelope.{CEnvelope}
 use Rattle.abi_messages.specs.Messages.{envelope_in, dsp_status_out}
 use Rattle.abi_dsp.specs.declared.CDsp.{CDsp}
+use Rattle.abi_avr.specs.declared.CAvrReplies.{CAvrReplies}
 use Rattle.abi_avr.specs.declared.CAvr.{CAvr}
 use Rattle.abi_dsp.specs.State.{nack_out, hw_info_out, dsp_in, dsp_out}
 use Rattle.abi_avr.specs.State.{factory_cal_out, if_cal_out, avr_config_out, avr_in, avr_out}
@@ -25,6 +26,7 @@ use Rattle.host.specs.declared.c_avr.CAvrSync.{CAvrSync}
 use Rattle.host.specs.declared.c_avr.CAvrFinished.{CAvrFinished}
 use Rattle.host.specs.Sends.{unknown, known, both, opened}
 use Rattle.host.specs.Fed.{first, answered, declined}
+use Rattle.host.specs.Beside.{beside, plain, dsp_beside, avr_beside}
 use Rattle.host.specs.declared.fed.Fed.{Fed}
 
 -- ---- DSP
@@ -37,10 +39,10 @@ dsp_new = dsp_fed (first dsp_out dsp.begun)
 
 abbrev pub dsp_feed : CDsp → CEnvelope → List ℕ → List ℕ → ℕ → CDspFed
 dsp_feed c e text payload t =
-    dsp_fed (both (dsp_in c) (envelope_in e) (λ s v. answered dsp_out (dsp.fed_to s (opened v v.params text payload) t) c) (declined c))
+    dsp_fed (both (dsp_in c) (envelope_in e) (λ s v. answered dsp_out dsp_beside (dsp.fed_to s (opened v v.params text payload) t) c) (declined c))
 
 abbrev pub dsp_check : CDsp → ℕ → CDspFed
-dsp_check c t = dsp_fed (known (dsp_in c) (λ s. answered dsp_out (dsp.polled s t) c) (declined c))
+dsp_check c t = dsp_fed (known (dsp_in c) (λ s. answered dsp_out dsp_beside (dsp.polled s t) c) (declined c))
 
 -- of a tag; beside an absent one stands 0
 abbrev pub place_out : Option ℕ → COptionPlace
@@ -64,16 +66,52 @@ dsp_sync s = record {
 abbrev pub no_dsp_result : ℕ → CDspFinished
 no_dsp_result n = record { refusal = n; sync = dsp_sync (dsp.sync_of (dsp.begun).seq.state.replies) }
 
-abbrev pub dsp_finished : Result DspSync Refusal → CDspFinished
-dsp_finished (Ok s) = record { refusal = 0; sync = dsp_sync s }
-dsp_finished (Err r) = no_dsp_result (number r)
+-- of a state that was handed in; what stands in it beside a record that is told as absent stands in the result
+abbrev pub dsp_sync_beside : CDspSync → CDsp → CDspSync
+dsp_sync_beside n c = record {
+  status = beside c.status.some n.status (plain c.status.value);
+  status_payload = beside c.status.some n.status_payload c.status.payload;
+  hw_info = beside c.hw_info.some n.hw_info c.hw_info;
+  dev_info = beside c.dev_info.some n.dev_info c.dev_info.value;
+  prod_info = n.prod_info;
+  config = beside c.config.some n.config c.config.value;
+  model = n.model;
+  tag_place = n.tag_place;
+  power_mode_unanswered = n.power_mode_unanswered;
+}
+
+abbrev pub dsp_finished : Result DspSync Refusal → CDsp → CDspFinished
+dsp_finished (Ok s) c = record { refusal = 0; sync = dsp_sync_beside (dsp_sync s) c }
+dsp_finished (Err r) c = no_dsp_result (number r)
 
 abbrev pub dsp_result : CDsp → CDspFinished
-dsp_result c = known (dsp_in c) (λ s. dsp_finished (dsp.finished s)) (no_dsp_result unknown)
+dsp_result c = known (dsp_in c) (λ s. dsp_finished (dsp.finished s) c) (no_dsp_result unknown)
 
+-- with no nack, and nothing beside it
+abbrev pub without_nack : CDsp → CDsp
+without_nack c = record {
+  step = c.step;
+  status = c.status;
+  hw_info = c.hw_info;
+  dev_info = c.dev_info;
+  prod_info = c.prod_info;
+  config = c.config;
+  refused = nack_out None;
+  power_mode_unanswered = c.power_mode_unanswered;
+  deadline = c.deadline;
+  last = c.last;
+  ticks = c.ticks;
+}
+
+-- the nack as it stands in the state, whether there is one or not
 abbrev pub dsp_take : CDsp → CDspTaken
 dsp_take c =
-    known (dsp_in c) (λ s. record { refusal = 0; refused = nack_out (dsp.taken s).refused; seq = dsp_out (dsp.taken s).seq })
+    known (dsp_in c)
+    (λ s. record {
+      refusal = 0;
+      refused = beside c.refused.some (nack_out (dsp.taken s).refused) c.refused;
+      seq = without_nack (dsp_beside (dsp_out (dsp.taken s).seq) c);
+    })
     (record { refusal = unknown; refused = nack_out None; seq = c })
 
 -- ---- AVR
@@ -90,10 +128,10 @@ avr_new_for model = avr_fed (first avr_out (avr.begun model))
 abbrev pub avr_feed : CAvr → CEnvelope → List ℕ → List ℕ → ℕ → ℕ → CAvrFed
 avr_feed c e text payload t wall =
     avr_fed (both (avr_in c) (envelope_in e)
-    (λ s v. answered avr_out (avr.fed_to s (record { envelope = opened v v.params text payload; wall = wall }) t) c) (declined c))
+    (λ s v. answered avr_out avr_beside (avr.fed_to s (record { envelope = opened v v.params text payload; wall = wall }) t) c) (declined c))
 
 abbrev pub avr_check : CAvr → ℕ → CAvrFed
-avr_check c t = avr_fed (known (avr_in c) (λ s. answered avr_out (avr.polled s t) c) (declined c))
+avr_check c t = avr_fed (known (avr_in c) (λ s. answered avr_out avr_beside (avr.polled s t) c) (declined c))
 
 abbrev pub avr_sync : AvrSync → CAvrSync
 avr_sync s = record {
@@ -108,9 +146,19 @@ avr_sync s = record {
 abbrev pub no_avr_result : ℕ → CAvrFinished
 no_avr_result n = record { refusal = n; sync = avr_sync (avr.sync_of (avr.begun mevo).seq.state.replies) }
 
-abbrev pub avr_finished : Result AvrSync Refusal → CAvrFinished
-avr_finished (Ok s) = record { refusal = 0; sync = avr_sync s }
-avr_finished (Err r) = no_avr_result (number r)
+abbrev pub avr_sync_beside : CAvrSync → CAvrReplies → CAvrSync
+avr_sync_beside n c = record {
+  status = beside c.status.some n.status c.status.value;
+  dev_info = beside c.dev_info.some n.dev_info c.dev_info.value;
+  config = beside c.config.some n.config c.config.value;
+  factory_cal = beside c.factory_cal.some n.factory_cal c.factory_cal;
+  if_cal = beside c.if_cal.some n.if_cal c.if_cal;
+  avr_config = beside c.avr_config.some n.avr_config c.avr_config;
+}
+
+abbrev pub avr_finished : Result AvrSync Refusal → CAvr → CAvrFinished
+avr_finished (Ok s) c = record { refusal = 0; sync = avr_sync_beside (avr_sync s) c.replies }
+avr_finished (Err r) c = no_avr_result (number r)
 
 abbrev pub avr_result : CAvr → CAvrFinished
-avr_result c = known (avr_in c) (λ s. avr_finished (avr.finished s)) (no_avr_result unknown)
+avr_result c = known (avr_in c) (λ s. avr_finished (avr.finished s) c) (no_avr_result unknown)

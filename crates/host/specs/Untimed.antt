@@ -18,6 +18,7 @@ use Rattle.abi_messages.specs.declared.CEnvelope.{CEnvelope}
 use Rattle.abi_messages.specs.Messages.{envelope_in}
 use Rattle.abi.specs.declared.config.CSettings.{CSettings}
 use Rattle.abi.specs.Settings.{settings_in}
+use Rattle.abi_pi.specs.declared.CPiReplies.{CPiReplies}
 use Rattle.abi_pi.specs.declared.CPi.{CPi}
 use Rattle.abi_avr_config.specs.declared.CAvrConfig.{CAvrConfig}
 use Rattle.abi_arm.specs.declared.CArm.{CArm}
@@ -33,7 +34,8 @@ use Rattle.host.specs.declared.c_arm.CArmFed.{CArmFed}
 use Rattle.host.specs.declared.c_arm.CRetries.{CRetries}
 use Rattle.host.specs.declared.c_disarm.CDisarmFed.{CDisarmFed}
 use Rattle.host.specs.Sends.{unknown, known, both, opened}
-use Rattle.host.specs.Fed.{first, answered, declined}
+use Rattle.host.specs.Fed.{first, answered, alone, declined}
+use Rattle.host.specs.Beside.{beside, pi_beside, avr_config_beside}
 use Rattle.host.specs.declared.fed.Fed.{Fed}
 
 -- ---- Pi
@@ -45,18 +47,27 @@ abbrev pub pi_new : CPiFed
 pi_new = pi_fed (first pi_out pi.begun)
 
 abbrev pub pi_feed : CPi → CEnvelope → List ℕ → List ℕ → CPiFed
-pi_feed c e text payload = pi_fed (both (pi_in c) (envelope_in e) (λ s v. answered pi_out (pi.fed_to s (opened v [] text payload)) c) (declined c))
+pi_feed c e text payload = pi_fed (both (pi_in c) (envelope_in e) (λ s v. answered pi_out pi_beside (pi.fed_to s (opened v [] text payload)) c) (declined c))
 
 -- beside a refusal stands what a new start-up has, which is empty
 abbrev pub no_pi_result : ℕ → CPiFinished
 no_pi_result n = record { refusal = n; sync = pi.sync_of (pi.begun).seq.replies }
 
-abbrev pub pi_finished : Result PiSync Refusal → CPiFinished
-pi_finished (Ok s) = record { refusal = 0; sync = s }
-pi_finished (Err r) = no_pi_result (number r)
+-- of a state that was handed in; what stands in it beside a record that is told as absent stands in the result
+abbrev pub pi_sync_beside : PiSync → CPiReplies → PiSync
+pi_sync_beside n c = record {
+  dev_info = beside c.dev_info.some n.dev_info c.dev_info.value;
+  cam_config = beside c.cam_config.some n.cam_config c.cam_config.value;
+  ssid = n.ssid;
+  password = n.password;
+}
+
+abbrev pub pi_finished : Result PiSync Refusal → CPi → CPiFinished
+pi_finished (Ok s) c = record { refusal = 0; sync = pi_sync_beside s c.replies }
+pi_finished (Err r) c = no_pi_result (number r)
 
 abbrev pub pi_result : CPi → CPiFinished
-pi_result c = known (pi_in c) (λ s. pi_finished (pi.finished s)) (no_pi_result unknown)
+pi_result c = known (pi_in c) (λ s. pi_finished (pi.finished s) c) (no_pi_result unknown)
 
 -- ---- settings run
 
@@ -75,7 +86,7 @@ avr_config_new s =
 
 abbrev pub avr_config_feed : CAvrConfig → CEnvelope → List ℕ → List ℕ → CAvrConfigFed
 avr_config_feed c e text payload =
-    avr_config_fed (both (avr_config_in c) (envelope_in e) (λ s v. answered avr_config_out (config.fed_to s (opened v [] text payload)) c) (declined c))
+    avr_config_fed (both (avr_config_in c) (envelope_in e) (λ s v. answered avr_config_out avr_config_beside (config.fed_to s (opened v [] text payload)) c) (declined c))
 
 -- ---- arm
 
@@ -89,7 +100,7 @@ abbrev pub arm_new_for : DeviceModel → CArmFed
 arm_new_for model = arm_fed (first arm_out (arm.begun model))
 
 abbrev pub arm_feed : CArm → CEnvelope → List ℕ → List ℕ → CArmFed
-arm_feed c e text payload = arm_fed (both (arm_in c) (envelope_in e) (λ s v. answered arm_out (arm.fed_to s (opened v [] text payload)) c) (declined c))
+arm_feed c e text payload = arm_fed (both (arm_in c) (envelope_in e) (λ s v. answered arm_out alone (arm.fed_to s (opened v [] text payload)) c) (declined c))
 
 abbrev pub arm_retries : CArm → CRetries
 arm_retries c = known (arm_in c) (λ s. record { refusal = 0; retries = s.retries }) (record { refusal = unknown; retries = 0 })
@@ -104,4 +115,4 @@ disarm_new = disarm_fed (first disarm_out disarm.begun)
 
 abbrev pub disarm_feed : CDisarm → CEnvelope → List ℕ → List ℕ → CDisarmFed
 disarm_feed c e text payload =
-    disarm_fed (both (disarm_in c) (envelope_in e) (λ s v. answered disarm_out (disarm.fed_to s (opened v [] text payload)) c) (declined c))
+    disarm_fed (both (disarm_in c) (envelope_in e) (λ s v. answered disarm_out alone (disarm.fed_to s (opened v [] text payload)) c) (declined c))

@@ -68,7 +68,7 @@ pub extern "C" fn wigtalom_arm_feed(
         return Fed::declined(seq).into();
     };
     let fed = open.feed(env.src, env.type_id, env.message, text, payload);
-    Fed::answered(fed, seq).into()
+    Fed::answered(fed.outcome, fed.seq.into(), seq).into()
 }
 
 #[unsafe(no_mangle)]

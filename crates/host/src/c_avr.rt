@@ -1,14 +1,15 @@
 // The AVR start-up. C calls no function and takes no record with a type parameter, so what is alike in the
 // files of other sequences stands here again.
 ghost use Rattle.std.specs.Prelude.{◌≡◌};
-ghost use Rattle.host.specs.Timed.{avr_new_for, avr_fed, avr_feed, avr_check, avr_sync, no_avr_result, avr_finished, avr_result, avr_new};
+ghost use Rattle.host.specs.Timed.{avr_new_for, avr_fed, avr_feed, avr_check, avr_sync, no_avr_result, avr_sync_beside, avr_finished, avr_result, avr_new};
 ghost use Rattle.host.specs.Sheets.{avr_sheet, avr_sheet_buffer};
 
-use crate::UNKNOWN;
+use crate::absent::beside;
 use crate::fed::Fed;
 use crate::written::CWritten;
+use crate::{UNKNOWN, absent};
 use abi::action::CAction;
-use abi_avr::{CAvr, COptionStored};
+use abi_avr::{CAvr, CAvrReplies, COptionStored};
 use abi_messages::{CEnvelope, Envelope};
 use avr::{AvrSequencer, AvrSync};
 use device::model::DeviceModel;
@@ -79,17 +80,30 @@ fn no_result(refusal: u8) -> CAvrFinished
     }
 }
 
-impl From<Result<AvrSync, Refusal>> for CAvrFinished {
-    ghost from_gives = { λ finished r. r ≡ avr_finished finished };
+// What stands in the state that was handed in beside a record that is told as absent stands in the result.
+fn sync_beside(sync: CAvrSync, replies: CAvrReplies) -> CAvrSync
+    ensures { result ≡ avr_sync_beside sync replies }
+{
+    let c = replies;
+    CAvrSync {
+        status: beside(c.status.some, sync.status, c.status.value),
+        dev_info: beside(c.dev_info.some, sync.dev_info, c.dev_info.value),
+        config: beside(c.config.some, sync.config, c.config.value),
+        factory_cal: beside(c.factory_cal.some, sync.factory_cal, c.factory_cal),
+        if_cal: beside(c.if_cal.some, sync.if_cal, c.if_cal),
+        avr_config: beside(c.avr_config.some, sync.avr_config, c.avr_config),
+    }
+}
 
-    fn from(finished: Result<AvrSync, Refusal>) -> CAvrFinished {
-        match finished {
-            Ok(sync) => CAvrFinished {
-                refusal: 0,
-                sync: sync.into(),
-            },
-            Err(refusal) => no_result(refusal.number()),
-        }
+fn finished(finished: Result<AvrSync, Refusal>, seq: CAvr) -> CAvrFinished
+    ensures { result ≡ avr_finished finished seq }
+{
+    match finished {
+        Ok(sync) => CAvrFinished {
+            refusal: 0,
+            sync: sync_beside(sync.into(), seq.replies),
+        },
+        Err(refusal) => no_result(refusal.number()),
     }
 }
 
@@ -133,7 +147,7 @@ pub extern "C" fn wigtalom_avr_feed(
         now,
         wall,
     );
-    Fed::answered(fed, seq).into()
+    Fed::answered(fed.outcome, absent::avr(fed.seq.into(), seq), seq).into()
 }
 
 #[unsafe(no_mangle)]
@@ -141,7 +155,10 @@ pub extern "C" fn wigtalom_avr_check(seq: CAvr, now: u64) -> CAvrFed
     ensures { result ≡ avr_check seq now }
 {
     match AvrSequencer::try_from(seq) {
-        Ok(open) => Fed::answered(open.check_cal_timeout(now), seq).into(),
+        Ok(open) => {
+            let fed = open.check_cal_timeout(now);
+            Fed::answered(fed.outcome, absent::avr(fed.seq.into(), seq), seq).into()
+        }
         Err(_) => Fed::declined(seq).into(),
     }
 }
@@ -152,7 +169,7 @@ pub extern "C" fn wigtalom_avr_result(seq: CAvr) -> CAvrFinished
     ensures { result ≡ avr_result seq }
 {
     match AvrSequencer::try_from(seq) {
-        Ok(open) => open.into_result().into(),
+        Ok(open) => finished(open.into_result(), seq),
         Err(_) => no_result(UNKNOWN),
     }
 }

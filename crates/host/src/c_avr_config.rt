@@ -5,14 +5,14 @@ ghost use Rattle.settings.specs.Settings.{mode_only, from_mevo};
 ghost use Rattle.abi.specs.Settings.{settings_out};
 ghost use Rattle.host.specs.Untimed.{avr_config_fed, avr_config_new, avr_config_feed};
 
+use crate::absent;
 use crate::fed::Fed;
 use abi::action::CAction;
 use abi::config::CSettings;
 use abi_avr_config::CAvrConfig;
 use abi_messages::{CEnvelope, Envelope};
 use avr_config::AvrConfigSequencer;
-use protocol::{RadarCal, Refusal};
-use sequence::Answer;
+use protocol::RadarCal;
 use settings::{AvrSettings, MAX_PARAMS, MevoSettings};
 
 #[repr(C)]
@@ -64,7 +64,11 @@ pub extern "C" fn wigtalom_avr_config_new(settings: CSettings) -> CAvrConfigFed
 {
     let none = AvrConfigSequencer::new(AvrSettings::mode_only(0)).seq;
     if MAX_PARAMS < settings.len {
-        return Fed::<CAvrConfig>::from(Answer::refused(Refusal::TooManyParams, none)).into();
+        let counted = AvrSettings {
+            len: settings.len,
+            ..none.settings
+        };
+        return Fed::<CAvrConfig>::from(AvrConfigSequencer::new(counted)).into();
     }
     match AvrSettings::try_from(settings) {
         Ok(settings) => Fed::<CAvrConfig>::from(AvrConfigSequencer::new(settings)).into(),
@@ -86,5 +90,6 @@ pub extern "C" fn wigtalom_avr_config_feed(
         return Fed::declined(seq).into();
     };
     let fed = open.feed(env.src, env.type_id, env.message, text, payload);
-    Fed::answered(fed, seq).into()
+    let new = absent::avr_config(fed.seq.into(), seq);
+    Fed::answered(fed.outcome, new, seq).into()
 }

@@ -1,12 +1,13 @@
 // The DSP start-up. C calls no function and takes no record with a type parameter, so what is alike in the
 // files of other sequences stands here again.
 ghost use Rattle.std.specs.Prelude.{◌≡◌};
-ghost use Rattle.host.specs.Timed.{dsp_fed, dsp_feed, dsp_check, place_out, dsp_sync, no_dsp_result, dsp_finished, dsp_result, dsp_take, dsp_new};
+ghost use Rattle.host.specs.Timed.{dsp_fed, dsp_feed, dsp_check, place_out, dsp_sync, no_dsp_result, dsp_sync_beside, dsp_finished, dsp_result, dsp_take, dsp_new};
 ghost use Rattle.host.specs.Sheets.{dsp_sheet, dsp_sheet_buffer};
 
-use crate::UNKNOWN;
+use crate::absent::{beside, plain};
 use crate::fed::Fed;
 use crate::written::CWritten;
+use crate::{UNKNOWN, absent};
 use abi::action::CAction;
 use abi_dsp::{CDsp, COptionDspQueryResp, COptionNack};
 use abi_messages::{CDspStatus, CEnvelope, Envelope};
@@ -114,17 +115,30 @@ fn no_result(refusal: u8) -> CDspFinished
     }
 }
 
-impl From<Result<DspSync, Refusal>> for CDspFinished {
-    ghost from_gives = { λ finished r. r ≡ dsp_finished finished };
+// What stands in the state that was handed in beside a record that is told as absent stands in the result.
+fn sync_beside(sync: CDspSync, seq: CDsp) -> CDspSync
+    ensures { result ≡ dsp_sync_beside sync seq }
+{
+    let (status, payload) = (plain(seq.status.value), seq.status.payload);
+    CDspSync {
+        status: beside(seq.status.some, sync.status, status),
+        status_payload: beside(seq.status.some, sync.status_payload, payload),
+        hw_info: beside(seq.hw_info.some, sync.hw_info, seq.hw_info),
+        dev_info: beside(seq.dev_info.some, sync.dev_info, seq.dev_info.value),
+        config: beside(seq.config.some, sync.config, seq.config.value),
+        ..sync
+    }
+}
 
-    fn from(finished: Result<DspSync, Refusal>) -> CDspFinished {
-        match finished {
-            Ok(sync) => CDspFinished {
-                refusal: 0,
-                sync: sync.into(),
-            },
-            Err(refusal) => no_result(refusal.number()),
-        }
+fn finished(finished: Result<DspSync, Refusal>, seq: CDsp) -> CDspFinished
+    ensures { result ≡ dsp_finished finished seq }
+{
+    match finished {
+        Ok(sync) => CDspFinished {
+            refusal: 0,
+            sync: sync_beside(sync.into(), seq),
+        },
+        Err(refusal) => no_result(refusal.number()),
     }
 }
 
@@ -158,7 +172,7 @@ pub extern "C" fn wigtalom_dsp_feed(
         payload,
         now,
     );
-    Fed::answered(fed, seq).into()
+    Fed::answered(fed.outcome, absent::dsp(fed.seq.into(), seq), seq).into()
 }
 
 #[unsafe(no_mangle)]
@@ -166,7 +180,10 @@ pub extern "C" fn wigtalom_dsp_check(seq: CDsp, now: u64) -> CDspFed
     ensures { result ≡ dsp_check seq now }
 {
     match DspSequencer::try_from(seq) {
-        Ok(open) => Fed::answered(open.check_timeout(now), seq).into(),
+        Ok(open) => {
+            let fed = open.check_timeout(now);
+            Fed::answered(fed.outcome, absent::dsp(fed.seq.into(), seq), seq).into()
+        }
         Err(_) => Fed::declined(seq).into(),
     }
 }
@@ -177,7 +194,7 @@ pub extern "C" fn wigtalom_dsp_result(seq: CDsp) -> CDspFinished
     ensures { result ≡ dsp_result seq }
 {
     match DspSequencer::try_from(seq) {
-        Ok(open) => open.into_result().into(),
+        Ok(open) => finished(open.into_result(), seq),
         Err(_) => no_result(UNKNOWN),
     }
 }
@@ -196,8 +213,11 @@ pub extern "C" fn wigtalom_dsp_take_refused(seq: CDsp) -> CDspTaken
     let taken = open.take_refused();
     CDspTaken {
         refusal: 0,
-        refused: taken.refused.into(),
-        seq: taken.seq.into(),
+        refused: beside(seq.refused.some, taken.refused.into(), seq.refused),
+        seq: CDsp {
+            refused: COptionNack::from(None),
+            ..absent::dsp(taken.seq.into(), seq)
+        },
     }
 }
 

@@ -1,15 +1,16 @@
 // The Pi start-up. C calls no function and takes no record with a type parameter, so what is alike in the
 // files of other sequences stands here again.
 ghost use Rattle.std.specs.Prelude.{◌≡◌};
-ghost use Rattle.host.specs.Untimed.{pi_fed, pi_feed, no_pi_result, pi_finished, pi_result, pi_new};
+ghost use Rattle.host.specs.Untimed.{pi_fed, pi_feed, no_pi_result, pi_sync_beside, pi_finished, pi_result, pi_new};
 ghost use Rattle.host.specs.Sheets.{pi_sheet, pi_sheet_buffer};
 
-use crate::UNKNOWN;
+use crate::absent::beside;
 use crate::fed::Fed;
 use crate::written::CWritten;
+use crate::{UNKNOWN, absent};
 use abi::action::CAction;
 use abi_messages::{CEnvelope, Envelope};
-use abi_pi::CPi;
+use abi_pi::{CPi, CPiReplies};
 use pi::{PiSequencer, PiSync};
 use protocol::Refusal;
 
@@ -52,14 +53,27 @@ fn no_result(refusal: u8) -> CPiFinished
     }
 }
 
-impl From<Result<PiSync, Refusal>> for CPiFinished {
-    ghost from_gives = { λ finished r. r ≡ pi_finished finished };
+// What stands in the state that was handed in beside a record that is told as absent stands in the result.
+fn sync_beside(sync: PiSync, replies: CPiReplies) -> PiSync
+    ensures { result ≡ pi_sync_beside sync replies }
+{
+    let c = replies;
+    PiSync {
+        dev_info: beside(c.dev_info.some, sync.dev_info, c.dev_info.value),
+        cam_config: beside(c.cam_config.some, sync.cam_config, c.cam_config.value),
+        ..sync
+    }
+}
 
-    fn from(finished: Result<PiSync, Refusal>) -> CPiFinished {
-        match finished {
-            Ok(sync) => CPiFinished { refusal: 0, sync },
-            Err(refusal) => no_result(refusal.number()),
-        }
+fn finished(finished: Result<PiSync, Refusal>, seq: CPi) -> CPiFinished
+    ensures { result ≡ pi_finished finished seq }
+{
+    match finished {
+        Ok(sync) => CPiFinished {
+            refusal: 0,
+            sync: sync_beside(sync, seq.replies),
+        },
+        Err(refusal) => no_result(refusal.number()),
     }
 }
 
@@ -79,7 +93,7 @@ pub extern "C" fn wigtalom_pi_feed(seq: CPi, env: CEnvelope, text: &[u8], payloa
         return Fed::declined(seq).into();
     };
     let fed = open.feed(env.src, env.type_id, env.message, text, payload);
-    Fed::answered(fed, seq).into()
+    Fed::answered(fed.outcome, absent::pi(fed.seq.into(), seq), seq).into()
 }
 
 // The result, once Done; beside a refusal an empty one.
@@ -88,7 +102,7 @@ pub extern "C" fn wigtalom_pi_result(seq: CPi) -> CPiFinished
     ensures { result ≡ pi_result seq }
 {
     match PiSequencer::try_from(seq) {
-        Ok(open) => open.into_result().into(),
+        Ok(open) => finished(open.into_result(), seq),
         Err(_) => no_result(UNKNOWN),
     }
 }

@@ -2,11 +2,12 @@
 ghost use Rattle.std.specs.Prelude.{◌≡◌};
 ghost use Rattle.abi_values.specs.Numbers.{refusal_out};
 ghost use Rattle.host.specs.Sends.{sent};
-ghost use Rattle.host.specs.Fed.{back, declined};
+ghost use Rattle.host.specs.Fed.{told, given, declined};
 
 use crate::UNKNOWN;
 use abi::action::CAction;
 use abi_values::refusal_out;
+use protocol::{Action, Refusal};
 use sequence::Answer;
 
 #[derive(Clone, Copy)]
@@ -17,32 +18,33 @@ pub struct Fed<C> {
 }
 
 // Of a call that begins a sequence.
-impl<S: Copy, C: From<S>> From<Answer<S>> for Fed<C> {
+impl<S: Copy, C: From<S> + Copy> From<Answer<S>> for Fed<C> {
     ghost from_gives = { λ answer r. (r.refusal ≡ refusal_out answer.outcome) × (r.action ≡ sent answer.outcome) × C.from_gives answer.seq r.seq };
 
     fn from(answer: Answer<S>) -> Fed<C> {
-        Fed {
-            refusal: refusal_out(answer.outcome),
-            action: answer.outcome.unwrap_or(None).into(),
-            seq: answer.seq.into(),
-        }
+        Fed::told(answer.outcome, answer.seq.into())
     }
 }
 
 impl<C: Copy> Fed<C> {
-    // Of a call of the state that was handed in. A refusal changes nothing: that very state goes back, with what stands in it beside an
-    // absent record.
-    pub fn answered<S: Copy>(answer: Answer<S>, handed: C) -> Fed<C>
-    where
-        C: From<S>,
-        ensures refusal { result.refusal ≡ refusal_out answer.outcome }
-        ensures action { result.action ≡ sent answer.outcome }
-        ensures seq { (s : C) × C.from_gives answer.seq s × (result.seq ≡ back answer.outcome s handed) }
+    fn told(outcome: Result<Option<Action>, Refusal>, seq: C) -> Fed<C>
+        ensures { result ≡ told outcome seq }
     {
-        let fed = Fed::from(answer);
-        match answer.outcome {
-            Ok(_) => fed,
-            Err(_) => Fed { seq: handed, ..fed },
+        Fed {
+            refusal: refusal_out(outcome),
+            action: outcome.unwrap_or(None).into(),
+            seq,
+        }
+    }
+
+    // Of a call of the state that was handed in, after which it is `new`. A refusal changes nothing: that very state goes back, with what
+    // stands in it beside an absent record.
+    pub fn answered(outcome: Result<Option<Action>, Refusal>, new: C, handed: C) -> Fed<C>
+        ensures { result ≡ given outcome new handed }
+    {
+        match outcome {
+            Ok(_) => Fed::told(outcome, new),
+            Err(_) => Fed::told(outcome, handed),
         }
     }
 

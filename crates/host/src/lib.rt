@@ -3,6 +3,7 @@
 // gives back the very state that it was handed.
 #![tactic(auto)]
 
+mod absent;
 mod c_arm;
 mod c_avr;
 mod c_avr_config;
