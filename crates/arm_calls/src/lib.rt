@@ -35,6 +35,7 @@ impl fmt::Display for Step {
 
 impl ArmCalls {
     // An arm that begins.
+    #[inline(never)]
     pub fn begin(model: Option<DeviceModel>, out: &mut Text) -> io::Result<ArmCalls> {
         let started = match model {
             Some(model) => ArmSequencer::new_for(model),
@@ -69,6 +70,7 @@ impl Sequence for ArmCalls {
         ..FEED_ALONE
     });
 
+    #[inline(never)]
     fn feed(&mut self, feed: &Feed<'_>, out: &mut Text) -> io::Result<()> {
         feed_by(self, feed, ArmSequencer::feed, out)
     }

@@ -52,6 +52,7 @@ impl Step {
 
 impl AvrCalls {
     // A start-up that begins.
+    #[inline(never)]
     pub fn begin(model: Option<DeviceModel>, out: &mut Text) -> io::Result<AvrCalls> {
         let started = match model {
             Some(model) => AvrSequencer::new_for(model),
@@ -89,6 +90,7 @@ impl Sequence for AvrCalls {
     });
 
     // Not by `feed_by`: it hands on the numbers and the clock, too.
+    #[inline(never)]
     fn feed(&mut self, feed: &Feed<'_>, out: &mut Text) -> io::Result<()> {
         let fed = self.avr.feed(
             feed.src,
@@ -103,11 +105,13 @@ impl Sequence for AvrCalls {
         self.go_on(&fed, out)
     }
 
+    #[inline(never)]
     fn check(&mut self, now: u64, out: &mut Text) -> io::Result<()> {
         let fed = self.avr.check_cal_timeout(now);
         self.go_on(&fed, out)
     }
 
+    #[inline(never)]
     fn result(&self, out: &mut Text) -> io::Result<()> {
         send::result(out, &self.avr.into_result(), stored::sync)
     }
@@ -116,6 +120,7 @@ impl Sequence for AvrCalls {
         self.avr.sheet(buf, at)
     }
 
+    #[inline(never)]
     fn state(&self, out: &mut Text) -> io::Result<()> {
         stored::state(out, &self.avr)
     }

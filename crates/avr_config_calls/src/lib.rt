@@ -42,6 +42,7 @@ impl fmt::Display for Step {
 
 impl AvrConfigCalls {
     // A run that begins with these settings. It answers as one that was fed at its first entry.
+    #[inline(never)]
     pub fn begin(settings: &AvrSettings, out: &mut Text) -> io::Result<AvrConfigCalls> {
         let started = AvrConfigSequencer::new(*settings);
         let mut calls = AvrConfigCalls { run: started.seq };
@@ -84,10 +85,12 @@ impl Steps for AvrConfigCalls {
 impl Sequence for AvrConfigCalls {
     const CALLS: Option<Calls> = Some(FEED_ALONE);
 
+    #[inline(never)]
     fn feed(&mut self, feed: &Feed<'_>, out: &mut Text) -> io::Result<()> {
         feed_by(self, feed, AvrConfigSequencer::feed, out)
     }
 
+    #[inline(never)]
     fn state(&self, out: &mut Text) -> io::Result<()> {
         stored::state(out, &self.run.settings)
     }

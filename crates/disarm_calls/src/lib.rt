@@ -29,6 +29,7 @@ impl fmt::Display for Step {
 
 impl DisarmCalls {
     // A disarm that begins.
+    #[inline(never)]
     pub fn begin(out: &mut Text) -> io::Result<DisarmCalls> {
         let started = DisarmSequencer::new();
         let calls = DisarmCalls {
@@ -60,6 +61,7 @@ impl Steps for DisarmCalls {
 impl Sequence for DisarmCalls {
     const CALLS: Option<Calls> = Some(FEED_ALONE);
 
+    #[inline(never)]
     fn feed(&mut self, feed: &Feed<'_>, out: &mut Text) -> io::Result<()> {
         feed_by(self, feed, DisarmSequencer::feed, out)
     }

@@ -47,6 +47,7 @@ impl Step {
 
 impl DspCalls {
     // A start-up that begins.
+    #[inline(never)]
     pub fn begin(out: &mut Text) -> io::Result<DspCalls> {
         let started = DspSequencer::new();
         let calls = DspCalls { dsp: started.seq };
@@ -82,6 +83,7 @@ impl Sequence for DspCalls {
     });
 
     // Not by `feed_by`: it hands on the numbers and the clock, too.
+    #[inline(never)]
     fn feed(&mut self, feed: &Feed<'_>, out: &mut Text) -> io::Result<()> {
         let fed = self.dsp.feed(
             feed.src,
@@ -95,15 +97,18 @@ impl Sequence for DspCalls {
         self.go_on(&fed, out)
     }
 
+    #[inline(never)]
     fn check(&mut self, now: u64, out: &mut Text) -> io::Result<()> {
         let fed = self.dsp.check_timeout(now);
         self.go_on(&fed, out)
     }
 
+    #[inline(never)]
     fn result(&self, out: &mut Text) -> io::Result<()> {
         send::result(out, &self.dsp.into_result(), stored::sync)
     }
 
+    #[inline(never)]
     fn take(&mut self, out: &mut Text) -> io::Result<()> {
         let taken = self.dsp.take_refused();
         self.dsp = taken.seq;
@@ -114,6 +119,7 @@ impl Sequence for DspCalls {
         self.dsp.sheet(buf, at)
     }
 
+    #[inline(never)]
     fn state(&self, out: &mut Text) -> io::Result<()> {
         stored::state(out, &self.dsp)
     }

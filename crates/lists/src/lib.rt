@@ -5,6 +5,7 @@
 use arm_calls::ArmCalls;
 use avr_calls::AvrCalls;
 use avr_config_calls::AvrConfigCalls;
+use device::model::DeviceModel;
 use disarm_calls::DisarmCalls;
 use dsp_calls::DspCalls;
 use pi_calls::PiCalls;
@@ -16,42 +17,77 @@ use streams::answers::Form;
 use streams::running::{NotBegun, begin, run};
 use streams::{Failure, List};
 
-// Answers the call that begins a sequence, and the calls of the sequence, up to that which begins the next one, or the end of the list.
+// Each begins a sequence of a type of its own, and answers its calls, up to that which begins the next one, or the end of the list. Not in one
+// function, nor inlined: a function sets all that its locals take to 0 when it is entered, and one would do so for the states of all seven.
+#[inline(never)]
+fn dsp<R: Read + Drop, W: Write + Drop>(
+    list: &mut List<R, W>,
+) -> Result<Option<Sequence>, Failure> {
+    let dsp = DspCalls::begin(&mut list.answers.answer)?;
+    begin(dsp, list)
+}
+
+#[inline(never)]
+fn avr<R: Read + Drop, W: Write + Drop>(
+    model: Option<DeviceModel>,
+    list: &mut List<R, W>,
+) -> Result<Option<Sequence>, Failure> {
+    let avr = AvrCalls::begin(model, &mut list.answers.answer)?;
+    begin(avr, list)
+}
+
+#[inline(never)]
+fn pi<R: Read + Drop, W: Write + Drop>(list: &mut List<R, W>) -> Result<Option<Sequence>, Failure> {
+    let pi = PiCalls::begin(&mut list.answers.answer)?;
+    begin(pi, list)
+}
+
+#[inline(never)]
+fn settings_run<R: Read + Drop, W: Write + Drop>(
+    list: &mut List<R, W>,
+) -> Result<Option<Sequence>, Failure> {
+    let settings_run = AvrConfigCalls::begin(&list.lent.settings, &mut list.answers.answer)?;
+    begin(settings_run, list)
+}
+
+#[inline(never)]
+fn disarm<R: Read + Drop, W: Write + Drop>(
+    list: &mut List<R, W>,
+) -> Result<Option<Sequence>, Failure> {
+    let disarm = DisarmCalls::begin(&mut list.answers.answer)?;
+    begin(disarm, list)
+}
+
+#[inline(never)]
+fn arm<R: Read + Drop, W: Write + Drop>(
+    model: Option<DeviceModel>,
+    list: &mut List<R, W>,
+) -> Result<Option<Sequence>, Failure> {
+    let arm = ArmCalls::begin(model, &mut list.answers.answer)?;
+    begin(arm, list)
+}
+
+#[inline(never)]
+fn session<R: Read + Drop, W: Write + Drop>(
+    list: &mut List<R, W>,
+) -> Result<Option<Sequence>, Failure> {
+    let session = SessionCalls::begin(&mut list.answers.answer)?;
+    begin(session, list)
+}
+
+// The same of whichever sequence begins.
 fn answer<R: Read + Drop, W: Write + Drop>(
     sequence: Sequence,
     list: &mut List<R, W>,
 ) -> Result<Option<Sequence>, Failure> {
-    let out = &mut list.answers.answer;
-    // seven arms, since each begins a sequence of its own type
     match sequence {
-        Sequence::Dsp => {
-            let dsp = DspCalls::begin(out)?;
-            begin(dsp, list)
-        }
-        Sequence::Avr(model) => {
-            let avr = AvrCalls::begin(model, out)?;
-            begin(avr, list)
-        }
-        Sequence::Pi => {
-            let pi = PiCalls::begin(out)?;
-            begin(pi, list)
-        }
-        Sequence::AvrConfig => {
-            let run = AvrConfigCalls::begin(&list.lent.settings, out)?;
-            begin(run, list)
-        }
-        Sequence::Disarm => {
-            let disarm = DisarmCalls::begin(out)?;
-            begin(disarm, list)
-        }
-        Sequence::Arm(model) => {
-            let arm = ArmCalls::begin(model, out)?;
-            begin(arm, list)
-        }
-        Sequence::Session => {
-            let session = SessionCalls::begin(out)?;
-            begin(session, list)
-        }
+        Sequence::Dsp => dsp(list),
+        Sequence::Avr(model) => avr(model, list),
+        Sequence::Pi => pi(list),
+        Sequence::AvrConfig => settings_run(list),
+        Sequence::Disarm => disarm(list),
+        Sequence::Arm(model) => arm(model, list),
+        Sequence::Session => session(list),
     }
 }
 

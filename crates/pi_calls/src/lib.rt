@@ -58,6 +58,7 @@ impl Step {
 
 impl PiCalls {
     // A start-up that begins.
+    #[inline(never)]
     pub fn begin(out: &mut Text) -> io::Result<PiCalls> {
         let started = PiSequencer::new();
         let calls = PiCalls { pi: started.seq };
@@ -90,10 +91,12 @@ impl Sequence for PiCalls {
         ..FEED_ALONE
     });
 
+    #[inline(never)]
     fn feed(&mut self, feed: &Feed<'_>, out: &mut Text) -> io::Result<()> {
         feed_by(self, feed, PiSequencer::feed, out)
     }
 
+    #[inline(never)]
     fn result(&self, out: &mut Text) -> io::Result<()> {
         send::result(out, &self.pi.into_result(), stored::sync)
     }
@@ -102,6 +105,7 @@ impl Sequence for PiCalls {
         self.pi.sheet(buf, at)
     }
 
+    #[inline(never)]
     fn state(&self, out: &mut Text) -> io::Result<()> {
         stored::state(out, &self.pi)
     }

@@ -56,6 +56,7 @@ fn sync(out: &mut Text, s: &SessionSync) -> io::Result<()> {
 
 impl SessionCalls {
     // A session that begins.
+    #[inline(never)]
     pub fn begin(out: &mut Text) -> io::Result<SessionCalls> {
         let begun = Session::new();
         sent(out, &begun.outcome)?;
@@ -87,6 +88,7 @@ impl Sequence for SessionCalls {
         ..FEED_ALONE
     });
 
+    #[inline(never)]
     fn feed(&mut self, feed: &Feed<'_>, out: &mut Text) -> io::Result<()> {
         let fed = self.session.feed(
             feed.src,
@@ -101,15 +103,18 @@ impl Sequence for SessionCalls {
         self.go_on(&fed, out)
     }
 
+    #[inline(never)]
     fn check(&mut self, now: u64, out: &mut Text) -> io::Result<()> {
         let fed = self.session.check(now);
         self.go_on(&fed, out)
     }
 
+    #[inline(never)]
     fn result(&self, out: &mut Text) -> io::Result<()> {
         send::result(out, &self.session.into_result(), sync)
     }
 
+    #[inline(never)]
     fn take(&mut self, out: &mut Text) -> io::Result<()> {
         let taken = self.session.take_refused();
         self.session = taken.session;
@@ -125,6 +130,7 @@ impl Sequence for SessionCalls {
         self.session.sheet(start_up, buf, at)
     }
 
+    #[inline(never)]
     fn state(&self, out: &mut Text) -> io::Result<()> {
         write!(out, " D")?;
         dsp_calls::stored::state(out, &self.session.dsp)?;

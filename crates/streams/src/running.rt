@@ -20,7 +20,8 @@ pub const FEED_ALONE: Calls = Calls {
     sheet_of: false,
 };
 
-// A sequence that runs. Each of its calls writes what it answers. Those that it doesn't have are never made.
+// A sequence that runs. Each of its calls writes what it answers. Those that it doesn't have are never made. What copies a state is not inlined: a
+// function sets all that its locals take to 0 when it is entered, and a call of one sort would pay for those of every other.
 pub trait Sequence {
     // The calls that it has beside `feed`; `None` if no sequence has begun.
     const CALLS: Option<Calls>;
@@ -159,6 +160,7 @@ fn answer<S: Sequence, W: Write + Drop>(
 }
 
 // Answers the calls of a list while this sequence runs, up to that which begins the next one, which is to be answered, or the end of the list.
+#[inline(never)]
 pub fn run<S: Sequence + Drop, R: Read + Drop, W: Write + Drop>(
     mut running: S,
     list: &mut List<R, W>,

@@ -11,6 +11,7 @@ const ROOM: usize = 512;
 
 // Each byte that is lent is a full stop before, so that what is left of them shows what was written. Of a buffer that the call names all is
 // told, and else the sheet alone.
+#[inline(never)]
 pub fn answer<S: Sequence>(
     running: &S,
     start_up: Option<StartUp>,

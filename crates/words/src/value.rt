@@ -36,17 +36,21 @@ pub(crate) fn digit(b: u8) -> u8
 
 // The number that digits write: decimal ones, or hexadecimal ones with a radix of 16. Not by std's `from_str_radix`, which would take a sign.
 fn number(digits: &[u8], radix: u8) -> Result<u64, Reason> {
-    let is_digit = |b: &u8| is_hex(*b) & (digit(*b) < radix);
-    if digits.is_empty() || !digits.iter().all(is_digit) {
+    if digits.is_empty() {
         return Err(Reason::NotANumber);
     }
-    digits
-        .iter()
-        .try_fold(0u64, |n, b| {
-            n.checked_mul(u64::from(radix))?
-                .checked_add(u64::from(digit(*b)))
-        })
-        .ok_or(Reason::OutOfRange)
+    // what the digits so far write; `None` once that takes more than 64 bits
+    let mut number = Some(0u64);
+    for b in digits {
+        let last = digit(*b);
+        if !(is_hex(*b) & (last < radix)) {
+            return Err(Reason::NotANumber);
+        }
+        number = number
+            .and_then(|n| n.checked_mul(u64::from(radix)))
+            .and_then(|n| n.checked_add(u64::from(last)));
+    }
+    number.ok_or(Reason::OutOfRange)
 }
 
 // A number without a sign.
