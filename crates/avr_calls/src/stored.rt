@@ -12,19 +12,16 @@ fn status<W: Write>(out: &mut W, s: &AvrStatus) -> io::Result<()> {
         " status=version=0x{:02X} state={} hw_id_hi={} hw_id_lo={} full_app_id={}",
         s.version, s.state, s.hw_id_hi, s.hw_id_lo, s.full_app_id
     )?;
-    write!(
-        out,
-        " temperature=0x{:016X} tilt=0x{:016X} roll=0x{:016X}",
-        fields::bits(s.temperature),
-        fields::bits(s.tilt),
-        fields::bits(s.roll)
-    )
+    fields::float(out, "temperature", s.temperature)?;
+    fields::float(out, "tilt", s.tilt)?;
+    fields::float(out, "roll", s.roll)
 }
 
 // A reply that is a payload alone.
 fn payload<W: Write>(out: &mut W, name: &str, payload: Option<&Stored>) -> io::Result<()> {
     fields::optional(out, name, &payload, |out, payload| {
-        write!(out, " {name}=payload=")?;
+        fields::named(out, name)?;
+        out.write_all(b"payload=")?;
         write::digits_and_text(out, payload.as_slice())
     })
 }

@@ -1,12 +1,12 @@
 -- The first place: there is at most one, and `first_place` gives it.
 -- Assumes nothing.
-use Rattle.std.proofs.Common.{◌≡◌, refl, sym, ap, ◌∙◌, ℕ, zero, suc, ◌<◌, ◌≤◌, Bool, true, false, cond, ◌&&◌, List, [], ◌∷◌, length, take, arith}
+use Rattle.std.proofs.Common.{◌≡◌, refl, sym, ap, ◌∙◌, ℕ, zero, suc, ◌+◌, ◌<◌, ◌≤◌, Bool, true, false, cond, ◌&&◌, List, [], ◌∷◌, length, take, arith}
 use mathlib.Core.Bool.{true≢false, and-eq-true_iff}
 use native.Mathlib.Nat.{not-suc-le-zero, le_of_suc-le-suc, zero-add}
 use native.Mathlib.Decide.{dec_le, dec_lt}
 use Rattle.std.specs.Prelude.{Option, Some, None}
 use Rattle.std.specs.Option.{option_map, MatchOption}
-use Rattle.std.specs.List.{starts_with, range_with_len, AllWithin, HoldsAt}
+use Rattle.std.specs.List.{range_with_len, AllWithin, HoldsAt}
 use Rattle.std.proofs.lemmas.List.FromFn.{length-range_with_len, get_or-range_with_len}
 use lib.Dec.{eqb}
 use lib.ListN.{length-take, length-drop}
@@ -32,16 +32,15 @@ stands_begins (x ∷ w) (y ∷ s) h =
     let q : take (length w) s ≡ w = cc in
     (and-eq-true_iff (eqb x y) (begins w s)).1 (eq-eqb x y (sym p), stands_begins w s q)
 
--- what a slice's `starts_with` computes
-pub starts : (s w : List ℕ) → starts_with eqb s w ≡ begins w s
-starts s [] = refl
-starts [] (x ∷ w) = refl
-starts (y ∷ s) (x ∷ w) = ap (λ b. eqb x y && b) (starts s w)
-
 -- past the end only the empty needle stands, and that stands at the start
 pub past_the_end : (w s : List ℕ) (i : ℕ) → length s < i → StandsAt w s i → StandsAt w s 0
 past_the_end [] s i h e = refl
 past_the_end (x ∷ w) s i h e = absurd (omega (arith, simp (length-take, length-drop) at (ap length e)))
+
+-- the same behind the last place from which s has room for w
+pub past_the_last : (w s : List ℕ) (i last : ℕ) → length s ≡ last + length w → last < i → StandsAt w s i → StandsAt w s 0
+past_the_last [] s i last room l e = refl
+past_the_last (x ∷ w) s i last room l e = absurd (omega (arith, simp (length-take, length-drop) at (ap length e)))
 
 -- ---- the first place
 
@@ -81,22 +80,26 @@ only_one w s (Some i) (Some j) h k = go (dec_lt i j) (dec_lt j i)
     go (no l) (yes m) = absurd (h.1 j m k.0)
     go (no l) (no m) = ap Some (omega arith)
 
--- what `position` finds over the places of s
-pub among_places : (w s : List ℕ) (r : Option ℕ)
-    → MatchOption r (AllWithin (λ i. StandsAt w s i → ⊥) (range_with_len 0 (suc (length s))) 0 (length (range_with_len 0 (suc (length s)))))
-    (λ k. (k < length (range_with_len 0 (suc (length s)))) × HoldsAt (StandsAt w s) (range_with_len 0 (suc (length s))) k
-    × AllWithin (λ i. StandsAt w s i → ⊥) (range_with_len 0 (suc (length s))) 0 k)
-    → IsFirstPlace w s r
-among_places w s None h = λ i e. go i e (dec_le i (length s))
-  where
-    inside : (i : ℕ) → i ≤ length s → StandsAt w s i → ⊥
-    inside i l e = h i 0 (omega arith) (rw length-range_with_len (omega arith)) (rw (get_or-range_with_len 0 (suc (length s)) i 0 (omega arith), zero-add) e)
+-- where the needle is longer than s, it stands nowhere
+pub no_room : (w s : List ℕ) → length s < length w → IsFirstPlace w s None
+no_room w s l i e = omega (arith, simp (length-take, length-drop) at (ap length e))
 
-    go : (i : ℕ) → StandsAt w s i → Dec (i ≤ length s) → ⊥
+-- what `position` finds over the places from which s has room for w
+pub among_places : (w s : List ℕ) (last : ℕ) → length s ≡ last + length w → (r : Option ℕ)
+    → MatchOption r (AllWithin (λ i. StandsAt w s i → ⊥) (range_with_len 0 (suc last)) 0 (length (range_with_len 0 (suc last))))
+    (λ k. (k < length (range_with_len 0 (suc last))) × HoldsAt (StandsAt w s) (range_with_len 0 (suc last)) k
+    × AllWithin (λ i. StandsAt w s i → ⊥) (range_with_len 0 (suc last)) 0 k)
+    → IsFirstPlace w s r
+among_places w s last room None h = λ i e. go i e (dec_le i last)
+  where
+    inside : (i : ℕ) → i ≤ last → StandsAt w s i → ⊥
+    inside i l e = h i 0 (omega arith) (rw length-range_with_len (omega arith)) (rw (get_or-range_with_len 0 (suc last) i 0 (omega arith), zero-add) e)
+
+    go : (i : ℕ) → StandsAt w s i → Dec (i ≤ last) → ⊥
     go i e (yes l) = inside i l e
-    go i e (no l) = inside 0 (omega arith) (past_the_end w s i (omega arith) e)
-among_places w s (Some k) h =
-    let n : k < suc (length s) = rw length-range_with_len at h.0 in (
-      rw (get_or-range_with_len 0 (suc (length s)) k 0 n, zero-add) at (h.1 0),
-      λ j l e. h.2 j 0 (omega arith) l (rw (get_or-range_with_len 0 (suc (length s)) j 0 (omega arith), zero-add) e),
+    go i e (no l) = inside 0 (omega arith) (past_the_last w s i last room (omega arith) e)
+among_places w s last room (Some k) h =
+    let n : k < suc last = rw length-range_with_len at h.0 in (
+      rw (get_or-range_with_len 0 (suc last) k 0 n, zero-add) at (h.1 0),
+      λ j l e. h.2 j 0 (omega arith) l (rw (get_or-range_with_len 0 (suc last) j 0 (omega arith), zero-add) e),
     )

@@ -8,5 +8,9 @@ pub fn find(s: &[u8], needle: &[u8]) -> Option<usize>
     ensures first { IsFirstPlace needle.now s.now result }
     ensures value { result ≡ first_place needle.now s.now }
 {
-    (0..s.len() + 1).position(|i| s[i..].starts_with(needle))
+    if s.len() < needle.len() {
+        return None;
+    }
+    let last = s.len() - needle.len();
+    (0..last + 1).position(|i| &s[i..i + needle.len()] == needle)
 }

@@ -1,8 +1,9 @@
-// Fields that `write!` has no format for: ` NAME=VALUE` each.
+// Fields that `write!` has no format for, or of which a state has many: ` NAME=VALUE` each.
 ghost use Rattle.std.specs.Prelude.{◌≡◌};
 ghost use Rattle.writing.specs.Floats.{written_bits};
 
 use crate::write;
+use itoa::Integer;
 use protocol::Stored;
 use std::io;
 use std::io::Write;
@@ -17,6 +18,13 @@ pub fn bits(x: f64) -> u64
     x.to_bits()
 }
 
+// The name of a field. There are many of them in a state, and with `write!` for the name bytes took twice as long.
+pub fn named<W: Write>(out: &mut W, name: &str) -> io::Result<()> {
+    out.write_all(b" ")?;
+    out.write_all(name.as_bytes())?;
+    out.write_all(b"=")
+}
+
 // A record, as `write` writes it, or `none`.
 pub fn optional<T, W: Write, F: FnOnce(&mut W, &T) -> io::Result<()>>(
     out: &mut W,
@@ -28,15 +36,29 @@ pub fn optional<T, W: Write, F: FnOnce(&mut W, &T) -> io::Result<()>>(
 {
     match record {
         Some(record) => write(out, record),
-        None => write!(out, " {name}=none"),
+        None => {
+            named(out, name)?;
+            out.write_all(b"none")
+        }
     }
 }
 
-// Bytes, as digits and as text. There are many of them in a state, and with `write!` for the name one took twice as long.
+// A number.
+pub fn number<W: Write, I: Integer>(out: &mut W, name: &str, n: I) -> io::Result<()> {
+    named(out, name)?;
+    write::number(out, n)
+}
+
+// A float, by its bits.
+pub fn float<W: Write>(out: &mut W, name: &str, x: f64) -> io::Result<()> {
+    named(out, name)?;
+    out.write_all(b"0x")?;
+    write::digits(out, &bits(x).to_be_bytes())
+}
+
+// Bytes, as digits and as text.
 pub fn bytes<W: Write>(out: &mut W, name: &str, s: &[u8]) -> io::Result<()> {
-    out.write_all(b" ")?;
-    out.write_all(name.as_bytes())?;
-    out.write_all(b"=")?;
+    named(out, name)?;
     write::digits_and_text(out, s)
 }
 

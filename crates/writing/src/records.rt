@@ -6,6 +6,10 @@ use protocol::{
 };
 use std::io;
 use std::io::Write;
+use write::Row;
+
+// So many numbers of 16 bits, of six bytes each at most, are put together with what stands before them, and written at once.
+const IN_A_ROW: usize = 9;
 
 // A nack, with the source and the type id of its envelope.
 pub fn nack<W: Write>(out: &mut W, nack: &Nack) -> io::Result<()> {
@@ -73,16 +77,22 @@ pub fn prod_info<W: Write>(out: &mut W, infos: &[ProdInfoResp; 3]) -> io::Result
 
 // The 34 numbers, with commas between them.
 pub fn config<W: Write>(out: &mut W, config: &ConfigResp) -> io::Result<()> {
-    let mut before = " params=";
-    for n in &config.params {
-        write!(out, "{before}{n}")?;
-        before = ",";
+    out.write_all(b" params")?;
+    let mut before = b'=';
+    for some in config.params.chunks(IN_A_ROW) {
+        let mut row = Row::new();
+        for n in some {
+            row.push(before);
+            row.number(*n);
+            before = b',';
+        }
+        out.write_all(row.as_slice())?;
     }
     Ok(())
 }
 
 pub fn instant<W: Write>(out: &mut W, name: &str, instant: &Option<u64>) -> io::Result<()> {
     fields::optional(out, name, instant, |out, instant| {
-        write!(out, " {name}={instant}")
+        fields::number(out, name, *instant)
     })
 }

@@ -10,10 +10,7 @@ pub fn param<W: Write>(out: &mut W, param: ParamValue) -> io::Result<()> {
     write::digits(out, &[param.param_id])?;
     match param.value {
         ParamData::Int24(n) => write!(out, " int24={n}"),
-        ParamData::Float40(x) => {
-            out.write_all(b" float40=0x")?;
-            write::digits(out, &fields::bits(x).to_be_bytes())
-        }
+        ParamData::Float40(x) => fields::float(out, "float40", x),
     }
 }
 

@@ -10,11 +10,12 @@ pub fn ticks<W: Write>(out: &mut W, ticks: &Ticks) -> io::Result<()> {
     if kept.is_empty() {
         return out.write_all(b" ticks=none");
     }
-    let mut before = " ticks=";
+    let mut before: &[u8] = b" ticks=";
     for tick in kept {
-        write!(out, "{before}{}", tick.reading)?;
+        out.write_all(before)?;
+        write::number(out, tick.reading)?;
         out.write_all(&[tick.how.letter()])?;
-        before = ",";
+        before = b",";
     }
     Ok(())
 }

@@ -1,5 +1,6 @@
-// The names of sources and models, and bytes.
+// The names of sources and models, numbers and bytes.
 use device::model::DeviceModel;
+use itoa::{Buffer, Integer};
 use protocol::BusAddr;
 use std::io::Write;
 use std::{fmt, io};
@@ -57,6 +58,44 @@ fn shown(b: u8) -> u8 {
         0x20..=0x7E => b,
         _ => b'.',
     }
+}
+
+// Bytes that are put together, and then written at once. Those for which there is no room are lost.
+#[derive(Clone, Copy)]
+pub struct Row {
+    bytes: [u8; ROW],
+    len: usize,
+}
+
+impl Row {
+    pub fn new() -> Row {
+        Row {
+            bytes: [0; ROW],
+            len: 0,
+        }
+    }
+
+    pub fn push(&mut self, b: u8) {
+        if let Some(to) = self.bytes.get_mut(self.len) {
+            *to = b;
+        }
+        self.len = self.len.saturating_add(1);
+    }
+
+    pub fn number<I: Integer>(&mut self, n: I) {
+        for b in Buffer::new().format(n).as_bytes() {
+            self.push(*b);
+        }
+    }
+
+    pub fn as_slice(&self) -> &[u8] {
+        &self.bytes[..self.len.min(ROW)]
+    }
+}
+
+// A number, by the kit's `itoa`: a state has many, and `write!` goes through several writes for each.
+pub fn number<W: Write, I: Integer>(out: &mut W, n: I) -> io::Result<()> {
+    out.write_all(Buffer::new().format(n).as_bytes())
 }
 
 // Writes a byte for each of these. A row at a time: with a `write!` for each it took more than ten times as long.

@@ -1,36 +1,43 @@
 -- `find` meets its contract: `position` finds the first place that passes, and one passes where the needle stands from it on.
 -- Assumes nothing.
-use Rattle.std.proofs.Common.{rules, ◌≡◌, true, false, Bool, ℕ, ◌∙◌, sym, List, length, suc, refl, ◌+◌, ◌-◌, take, drop, arith}
+use Rattle.std.proofs.Common.{rules, ◌≡◌, true, false, Bool, ℕ, ◌∙◌, sym, ap, List, length, suc, refl, ◌+◌, ◌-◌, take, drop, arith}
 use lib.Dec.{eqb}
-use lib.Seq.{take_all}
-use lib.ListN.{length-drop}
 use mathlib.Core.Bool.{true≢false}
-use borrow.Author.Tests.{tests}
-use Rattle.std.specs.List.{starts_with}
+use borrow.Author.Tests.{tests, eq-eqb, eqb-true}
+use Rattle.std.specs.Cmp.Lexicographic.{pointwise}
 use Rattle.std.proofs.lemmas.Iterator.{YieldsList-from_range, IsFirst-from_position}
-use Rattle.device.specs.Search.{StandsAt, begins, first_place}
-use Rattle.device.proofs.Places.{begins_stands, stands_begins, starts, among_places, is_first, only_one}
+use Rattle.std.proofs.lemmas.Slice.Eq.{slice_eq-Decides}
+use Rattle.std.specs.Prelude.{None}
+use Rattle.device.specs.Search.{StandsAt, first_place}
+use Rattle.device.proofs.Places.{no_room, among_places, is_first, only_one}
 use Rattle.device.proofs.search.find.Goals as goal
 
+pub returns-then-s-needle-clause-value : goal.returns-then-s-needle-clause-value
+returns-then-s-needle-clause-value c =
+    let s = c.args.s.now in
+    let w = c.args.needle.now in
+    only_one w s None (first_place w s) (no_room w s c.if-s-needle.true) (is_first w s)
+
 -- what is tested at a place
-tested : (s w : List ℕ) (i : ℕ) (b : Bool) → b ≡ starts_with eqb (take (length s - i) (drop i s)) w → b ≡ begins w (drop i s)
+tested : (s w : List ℕ) (i : ℕ) (b : Bool) → b ≡ pointwise eqb (take (i + length w - i) (drop i s)) w → (b ≡ true → StandsAt w s i) × (StandsAt w s i → b ≡ true)
 tested s w i b h =
-    let whole : take (length s - i) (drop i s) ≡ drop i s = take_all (length s - i) (drop i s) (rw (length-drop i s) (omega arith)) in
-    h ∙ rw whole (starts (drop i s) w)
+    let long : i + length w - i ≡ length w = omega arith in
+    slice_eq-Decides (λ x y. (eqb-true x y, eq-eqb x y)) (take (length w) (drop i s)) w b (h ∙ ap (λ n. pointwise eqb (take n (drop i s)) w) long)
 
-passed : (s w : List ℕ) (i : ℕ) → true ≡ starts_with eqb (take (length s - i) (drop i s)) w → StandsAt w s i
-passed s w i h = begins_stands w (drop i s) (sym (tested s w i true h))
+passed : (s w : List ℕ) (i : ℕ) → true ≡ pointwise eqb (take (i + length w - i) (drop i s)) w → StandsAt w s i
+passed s w i h = (tested s w i true h).0 refl
 
-failed : (s w : List ℕ) (i : ℕ) → false ≡ starts_with eqb (take (length s - i) (drop i s)) w → StandsAt w s i → ⊥
-failed s w i h e = true≢false (sym (stands_begins w (drop i s) e) ∙ sym (tested s w i false h))
+failed : (s w : List ℕ) (i : ℕ) → false ≡ pointwise eqb (take (i + length w - i) (drop i s)) w → StandsAt w s i → ⊥
+failed s w i h e = true≢false (sym ((tested s w i false h).1 e))
 
 pub returns-clause-first : goal.returns-clause-first
 returns-clause-first c =
     let s = c.args.s.now in
     let w = c.args.needle.now in
-    among_places w s c.position.result
+    let last = length s - length w in
+    among_places w s last (omega (arith, c.if-s-needle.false)) c.position.result
     (IsFirst-from_position _ _ c.position.result (StandsAt w s) (λ i. StandsAt w s i → ⊥) c.position.ensures.ran
-    (YieldsList-from_range 0 (length s + 1) (suc (length s)) refl (omega arith))
+    (YieldsList-from_range 0 (last + 1) (suc last) refl (omega arith))
     (λ x q k. passed s w x (search (rules, tests)))
     (λ x q k. (search (rules, tests), failed s w x (search (rules, tests)))))
 
