@@ -1,22 +1,21 @@
 -- Where nothing stands beside an absent record, what Beside.antt adds is what is there already.
 -- Assumes nothing.
 use Rattle.std.proofs.Common.{◌≡◌, refl, sym, ap, ◌∙◌, Bool, true, false, ◌||◌, Option, Some, None, Result, Ok, Err, ℕ, []}
-use mathlib.Core.Bool.{true≢false}
 use Rattle.std.specs.Bool.{then_some}
+use Rattle.std.specs.Prelude.{unwrap_or}
+use mathlib.Core.Bool.{true≢false}
 use Rattle.protocol.specs.declared.Nack.{Nack}
-use Rattle.dsp_table.specs.declared.DspReplies.{DspReplies}
-use Rattle.avr_table.specs.declared.AvrReplies.{AvrReplies}
-use Rattle.pi_table.specs.declared.PiReplies.{PiReplies}
-use Rattle.abi_dsp.specs.declared.COptionNack.{COptionNack}
 use Rattle.protocol.specs.declared.Refusal.{Refusal}
 use Rattle.protocol.specs.declared.DevInfoResp.{DevInfoResp}
 use Rattle.protocol.specs.declared.ConfigResp.{ConfigResp}
+use Rattle.protocol.specs.Carried.{no_dev_info, no_config, no_avr_status, no_cam_config}
 use Rattle.sequence.specs.declared.Answer.{Answer}
 use Rattle.sequence.specs.Rows.{judged}
+use Rattle.dsp_table.specs.declared.DspReplies.{DspReplies}
 use Rattle.dsp_table.specs.declared.DspStatusReply.{DspStatusReply}
-use Rattle.protocol.specs.Carried.{no_dev_info, no_config, no_avr_status, no_cam_config}
 use Rattle.dsp_table.specs.Stores.{no_status}
-use Rattle.std.specs.Prelude.{unwrap_or}
+use Rattle.avr_table.specs.declared.AvrReplies.{AvrReplies}
+use Rattle.pi_table.specs.declared.PiReplies.{PiReplies}
 use Rattle.dsp.specs.declared.DspSequencer.{DspSequencer}
 use Rattle.dsp.specs.Answers as dsp
 use Rattle.avr.specs.declared.AvrSequencer.{AvrSequencer}
@@ -30,22 +29,23 @@ use Rattle.abi_values.specs.declared.options.COptionInstant.{COptionInstant}
 use Rattle.abi_values.specs.declared.options.COptionDevInfoResp.{COptionDevInfoResp}
 use Rattle.abi_values.specs.declared.options.COptionConfigResp.{COptionConfigResp}
 use Rattle.abi_values.specs.Numbers.{and_then, addr_in}
-use Rattle.abi_dsp.specs.declared.COptionDspStatus.{COptionDspStatus}
-use Rattle.abi_avr.specs.declared.CAvr.{CAvr}
-use Rattle.abi_pi.specs.declared.CPi.{CPi}
-use Rattle.abi_avr_config.specs.declared.CAvrConfig.{CAvrConfig}
 use Rattle.abi_values.specs.Options.{instant_out, dev_info_in, dev_info_out, config_in, config_out}
-use Rattle.abi_sheet.specs.Ticks.{ticks_in}
 use Rattle.abi_messages.specs.declared.Envelope as host
 use Rattle.abi_messages.specs.Messages.{envelope_in, dsp_status_in, dsp_status_out}
+use Rattle.abi_sheet.specs.Ticks.{ticks_in}
 use Rattle.abi.specs.Settings.{radar_cal_out}
+use Rattle.abi_dsp.specs.declared.COptionNack.{COptionNack}
+use Rattle.abi_dsp.specs.declared.COptionDspStatus.{COptionDspStatus}
 use Rattle.abi_dsp.specs.State.{nack_in, nack_out, status_in, status_out, hw_info_in, hw_info_out, dsp_step_in, dsp_in, dsp_out}
+use Rattle.abi_dsp.specs.declared.CDsp.{CDsp}
+use Rattle.abi_avr.specs.declared.CAvr.{CAvr}
 use Rattle.abi_avr.specs.State as avr
 use Rattle.abi_avr.specs.State.{stored_out, factory_cal_out, if_cal_out, avr_step_in, avr_in, avr_out}
+use Rattle.abi_pi.specs.declared.CPi.{CPi}
 use Rattle.abi_pi.specs.State as pi_state
 use Rattle.abi_pi.specs.State.{cam_config_out, pi_step_in, pi_in, pi_out}
+use Rattle.abi_avr_config.specs.declared.CAvrConfig.{CAvrConfig}
 use Rattle.abi_avr_config.specs.State.{avr_config_in, avr_config_out}
-use Rattle.abi_dsp.specs.declared.CDsp.{CDsp}
 use Rattle.host.specs.declared.c_dsp.CDspTaken.{CDspTaken}
 use Rattle.host.specs.declared.fed.Fed.{Fed}
 use Rattle.host.specs.Sends.{known, both, opened}
@@ -69,16 +69,12 @@ same there out none some None c h = go (there c) refl
 -- of a deadline, which its step may have left, too
 instant : (n : Option ℕ) (c : COptionInstant) (over : Bool) → Bare c.some c (instant_out None) → beside (((instant_out n).some || c.some) || over) (instant_out n) c ≡ instant_out n
 instant (Some t) c over h = refl
-instant None c true h = go c.some refl
+instant None c over h = go c.some over refl
   where
-    go : (b : Bool) → c.some ≡ b → beside ((false || c.some) || true) (instant_out None) c ≡ instant_out None
-    go true p = rw p
-    go false p = rw (h p)
-instant None c false h = go c.some refl
-  where
-    go : (b : Bool) → c.some ≡ b → beside ((false || c.some) || false) (instant_out None) c ≡ instant_out None
-    go true p = rw p
-    go false p = rw (h p)
+    go : (b o : Bool) → c.some ≡ b → beside ((false || c.some) || o) (instant_out None) c ≡ instant_out None
+    go true o p = rw p
+    go false true p = rw (h p)
+    go false false p = rw (h p)
 
 -- of the DSP's status, of which the record of its own layout alone comes back
 dsp_status : (n : Option DspStatusReply) (c : COptionDspStatus) → Bare c.some (record { some = false; value = plain c.value; payload = c.payload }) (status_out None)
@@ -207,26 +203,20 @@ config_told : (c : COptionConfigResp) (r : Option ConfigResp) → Bare c.some c 
     → beside c.some (unwrap_or r no_config) c.value ≡ unwrap_or r no_config
 config_told c r h k = told_of (λ c. c.some) (λ c. c.value) config_out (λ r. unwrap_or r no_config) refl c r h (gone c.some _ r k)
 
-status_told : (c : COptionDspStatus) (r : Option DspStatusReply) → Bare c.some (record { some = false; value = plain c.value; payload = c.payload }) (status_out None)
-    → (c.some ≡ false → r ≡ None) → beside c.some (dsp_status_out (unwrap_or r no_status).status) (plain c.value) ≡ dsp_status_out (unwrap_or r no_status).status
-status_told c r h k = go c.some refl
+-- of the DSP's status, or of its payload
+status_told : {B : Type 0} (value : COptionDspStatus → B) (of : Option DspStatusReply → B) → value (status_out None) ≡ of None → (c : COptionDspStatus) (r : Option DspStatusReply)
+    → Bare c.some (record { some = false; value = plain c.value; payload = c.payload }) (status_out None) → (c.some ≡ false → r ≡ None)
+    → beside c.some (of r) (value (record { some = false; value = plain c.value; payload = c.payload })) ≡ of r
+status_told value of empty c r h k = go c.some refl
   where
-    go : (b : Bool) → c.some ≡ b → beside c.some (dsp_status_out (unwrap_or r no_status).status) (plain c.value) ≡ dsp_status_out (unwrap_or r no_status).status
+    go : (b : Bool) → c.some ≡ b → beside c.some (of r) (value (record { some = false; value = plain c.value; payload = c.payload })) ≡ of r
     go true p = rw p
-    go false p = rw (p, k p) (ap (λ (x : COptionDspStatus). x.value) (h p))
-
-payload_told : (c : COptionDspStatus) (r : Option DspStatusReply) → Bare c.some (record { some = false; value = plain c.value; payload = c.payload }) (status_out None)
-    → (c.some ≡ false → r ≡ None) → beside c.some (unwrap_or r no_status).payload c.payload ≡ (unwrap_or r no_status).payload
-payload_told c r h k = go c.some refl
-  where
-    go : (b : Bool) → c.some ≡ b → beside c.some (unwrap_or r no_status).payload c.payload ≡ (unwrap_or r no_status).payload
-    go true p = rw p
-    go false p = rw (p, k p) (ap (λ (x : COptionDspStatus). x.payload) (h p))
+    go false p = rw (p, k p) (ap value (h p) ∙ empty)
 
 dsp_sync_same : (c : CDsp) (y : DspReplies) → DspTold c → DspRead c y → dsp_sync_beside (dsp_sync (dsp.sync_of y)) c ≡ dsp_sync (dsp.sync_of y)
 dsp_sync_same c y h k =
     let none = no_status_read c.status y.status k.status in
-    rw (status_told c.status y.status h.status none, payload_told c.status y.status h.status none, told_of (λ c. c.some) (λ c. c) hw_info_out hw_info_out refl c.hw_info y.hw_info h.hw_info (gone c.hw_info.some _ y.hw_info k.hw_info), dev_info_told c.dev_info y.dev_info h.dev_info k.dev_info, config_told c.config y.config h.config k.config)
+    rw (status_told (λ c. c.value) (λ r. dsp_status_out (unwrap_or r no_status).status) refl c.status y.status h.status none, status_told (λ c. c.payload) (λ r. (unwrap_or r no_status).payload) refl c.status y.status h.status none, told_of (λ c. c.some) (λ c. c) hw_info_out hw_info_out refl c.hw_info y.hw_info h.hw_info (gone c.hw_info.some _ y.hw_info k.hw_info), dev_info_told c.dev_info y.dev_info h.dev_info k.dev_info, config_told c.config y.config h.config k.config)
 
 avr_sync_same : (c : CAvr) (y : AvrReplies) → AvrTold c.replies → y ≡ avr.replies_in c.replies → avr_sync_beside (avr_sync (avr_answers.sync_of y)) c.replies ≡ avr_sync (avr_answers.sync_of y)
 avr_sync_same c y h k =
@@ -238,22 +228,13 @@ pi_sync_same c y h k =
     let z = c.replies in
     rw (dev_info_told z.dev_info y.dev_info h.dev_info (ap (λ (y : PiReplies). y.dev_info) k), told_of (λ c. c.some) (λ c. c.value) cam_config_out (λ r. unwrap_or r no_cam_config) refl z.cam_config y.cam_config h.cam_config (gone z.cam_config.some _ y.cam_config (ap (λ (y : PiReplies). y.cam_config) k)))
 
-dsp_finished_same : (c : CDsp) (y : DspReplies) (o : Result (Unit {0}) Refusal) → dsp_sync_beside (dsp_sync (dsp.sync_of y)) c ≡ dsp_sync (dsp.sync_of y)
-    → dsp_finished (judged o (Ok (dsp.sync_of y)) (λ r. Err r)) c ≡ dsp_told (judged o (Ok (dsp.sync_of y)) (λ r. Err r))
-dsp_finished_same c y (Ok u) e = rw e
-dsp_finished_same c y (Err r) e = refl
+-- refused before Done, whatever was asked
+judged_alike : {A F : Type 0} (f g : Result A Refusal → F) (x : A) (o : Result (Unit {0}) Refusal) → f (Ok x) ≡ g (Ok x) → ((r : Refusal) → f (Err r) ≡ g (Err r))
+    → f (judged o (Ok x) (λ r. Err r)) ≡ g (judged o (Ok x) (λ r. Err r))
+judged_alike f g x (Ok u) h k = h
+judged_alike f g x (Err r) h k = k r
 
-avr_finished_same : (c : CAvr) (y : AvrReplies) (o : Result (Unit {0}) Refusal) → avr_sync_beside (avr_sync (avr_answers.sync_of y)) c.replies ≡ avr_sync (avr_answers.sync_of y)
-    → avr_finished (judged o (Ok (avr_answers.sync_of y)) Err) c ≡ avr_told (judged o (Ok (avr_answers.sync_of y)) Err)
-avr_finished_same c y (Ok u) e = rw e
-avr_finished_same c y (Err r) e = refl
-
-pi_finished_same : (c : CPi) (y : PiReplies) (o : Result (Unit {0}) Refusal) → pi_sync_beside (pi_answers.sync_of y) c.replies ≡ pi_answers.sync_of y
-    → pi_finished (judged o (Ok (pi_answers.sync_of y)) (λ r. Err r)) c ≡ pi_told (judged o (Ok (pi_answers.sync_of y)) (λ r. Err r))
-pi_finished_same c y (Ok u) e = rw e
-pi_finished_same c y (Err r) e = refl
-
--- ---- what calls made
+-- ---- what the library writes
 
 made : {A C : Type 0} (there : C → Bool) (out : Option A → C) → ((x : A) → there (out (Some x)) ≡ true) → (r : Option A) → Bare (there (out r)) (out r) (out None)
 made there out some (Some x) p = absurd (true≢false (sym (some x) ∙ p))
@@ -273,16 +254,16 @@ pub nothing_beside : NothingBeside
 nothing_beside = record {
   of_dsp_feed = λ c e text payload t h. fed_alike dsp_fed dsp_out dsp_beside c (λ n. dsp_same n c h) (dsp_in c) (envelope_in e) (λ s v. dsp.fed_to s (opened v v.params text payload) t);
   of_dsp_check = λ c t h. checked_alike dsp_fed dsp_out dsp_beside c (λ n. dsp_same n c h) (dsp_in c) (λ s. dsp.polled s t);
-  of_dsp_result = λ c h. known_alike (dsp_in c) _ _ _ (λ s p. dsp_finished_same c s.state.replies _ (dsp_sync_same c s.state.replies h (dsp_read c s p)));
+  of_dsp_result = λ c h. known_alike (dsp_in c) _ _ _ (λ s p. judged_alike (λ q. dsp_finished q c) dsp_told (dsp.sync_of s.state.replies) _ (rw (dsp_sync_same c s.state.replies h (dsp_read c s p))) (λ r. refl));
   of_dsp_take = λ c h. known_alike (dsp_in c) _ _ _ (λ s p.
       rw (told_of (λ c. c.some) (λ c. c) nack_out nack_out refl c.refused s.state.replies.refused h.refused (no_nack_read c.refused s.state.replies.refused (dsp_read c s p).refused))
       (ap (taken_with s) (dsp_same (dsp.taken s).seq c h)));
   of_avr_feed = λ c e text payload t wall h. fed_alike avr_fed avr_out avr_beside c (λ n. avr_same n c h) (avr_in c) (envelope_in e)
       (λ s v. avr_answers.fed_to s (record { envelope = opened v v.params text payload; wall = wall }) t);
   of_avr_check = λ c t h. checked_alike avr_fed avr_out avr_beside c (λ n. avr_same n c h) (avr_in c) (λ s. avr_answers.polled s t);
-  of_avr_result = λ c h. known_alike (avr_in c) _ _ _ (λ s p. avr_finished_same c s.state.replies _ (avr_sync_same c s.state.replies h (avr_read c s p)));
+  of_avr_result = λ c h. known_alike (avr_in c) _ _ _ (λ s p. judged_alike (λ q. avr_finished q c) avr_told (avr_answers.sync_of s.state.replies) _ (rw (avr_sync_same c s.state.replies h (avr_read c s p))) (λ r. refl));
   of_pi_feed = λ c e text payload h. fed_alike pi_fed pi_out pi_beside c (λ n. pi_same n c h) (pi_in c) (envelope_in e) (λ s v. pi_answers.fed_to s (opened v [] text payload));
-  of_pi_result = λ c h. known_alike (pi_in c) _ _ _ (λ s p. pi_finished_same c s.replies _ (pi_sync_same c s.replies h (pi_read c s p)));
+  of_pi_result = λ c h. known_alike (pi_in c) _ _ _ (λ s p. judged_alike (λ q. pi_finished q c) pi_told (pi_answers.sync_of s.replies) _ (rw (pi_sync_same c s.replies h (pi_read c s p))) (λ r. refl));
   of_avr_config_feed = λ c e text payload h. fed_alike avr_config_fed avr_config_out avr_config_beside c (λ n. avr_config_same n c h) (avr_config_in c) (envelope_in e)
       (λ s v. config_answers.fed_to s (opened v [] text payload));
   made_by_dsp = λ s.

@@ -1,6 +1,6 @@
 -- Where nothing stands beside an absent record, Beside.antt adds nothing: each call tells what the call that it stands for answers, and no more. So it
--- is of every state that calls made: a new one is that of a sequencer (`dsp_out` and its like), an accepted call of such a state gives such a one, and a
--- refused one gives back what it was handed. Definitions only.
+-- is of what the library writes (`dsp_out` and its like); and so of every state that calls made, since a new one and what an accepted call of such a
+-- state gives are written by it, and a refused call gives back what it was handed. Definitions only.
 -- Assumes nothing.
 use Rattle.std.specs.Prelude.{ℕ, ◌≡◌, Bool, false, List, [], None, Result, Ok, Err}
 use Rattle.protocol.specs.declared.Refusal.{Refusal}
@@ -90,7 +90,7 @@ abbrev pub pi_told : Result PiSync Refusal → CPiFinished
 pi_told (Ok s) = record { refusal = 0; sync = s }
 pi_told (Err r) = no_pi_result (number r)
 
--- ---- each call, and what calls made
+-- ---- each call, and what the library writes
 
 pub record NothingBeside : Type 0 where
   pub of_dsp_feed : (c : CDsp) (e : CEnvelope) (text payload : List ℕ) (t : ℕ) → DspBare c

@@ -20,8 +20,8 @@ mod written;
 // A number that no case has: a kind, a device, a step, a layout, a format, how an entry was ticked or a start-up.
 const UNKNOWN: u8 = 21;
 
-/// Where nothing stands beside an absent record, each call tells what the call that it stands for answers, and no more. So it is of every state
-/// that calls made, from a new one on.
+/// Where nothing stands beside an absent record, each call tells what the call that it stands for answers, and no more. So it is of what the
+/// library writes, and by that of every state that calls made, from a new one on.
 pub fn nothing_beside()
     ensures { NothingBeside }
 {}
